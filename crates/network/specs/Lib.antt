@@ -1,0 +1,4 @@
+pub mod Faults
+pub mod Rules
+pub mod Nets
+pub mod Runs

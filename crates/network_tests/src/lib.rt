@@ -1,0 +1,3 @@
+// Worked examples of networks: each rule, each refusal, sides and cuts.
+#[cfg(test)]
+mod networks;
