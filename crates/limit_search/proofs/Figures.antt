@@ -16,9 +16,8 @@ ceil-at : (n k q r : ℕ) → q * k + r ≡ n → r < k → q + min 1 r ≡ ceil
 ceil-at n k q zero e h = let s : n + k - 1 ≡ q * k + (k - 1) = omega arith in omega (arith, ap (λ m. m / k) s, div-mul-add q k (k - 1) (omega arith))
 ceil-at n k q (suc r) e h = let s : n + k - 1 ≡ (q + 1) * k + r = omega arith in omega (arith, ap (λ m. m / k) s, div-mul-add (q + 1) k r (omega arith))
 
--- the limit that a cut asks for, as the code does it
-pub step-at : (W P K : ℕ) → 0 < K → (W - P) / K + min 1 ((W - P) % K) ≡ limitStep W P K
-step-at W P K some = ceil-at (W - P) K _ _ (div-add-mod' (W - P) K) (mod-below (W - P) K some)
+pub rounded : (n k r : ℕ) → r ≡ n / k + min 1 (n % k) → 0 < k → r ≡ ceilDiv n k
+rounded n k r e some = e ∙ ceil-at n k _ _ (div-add-mod' n k) (mod-below n k some)
 
 -- from the figures of a cut: the size of a run, and the next limit
 module _ (arcs : List Arc) (side : Side) {fixed counted : ℕ} (fixed-is : fixed ≡ fixedAcross (inside (side .bits)) arcs) (counted-is : counted ≡ countedAcross (inside (side .bits)) arcs) where

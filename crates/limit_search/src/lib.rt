@@ -5,7 +5,7 @@ ghost use mathlib.Core.Path.{_≡_};
 ghost use Rattle.std.specs.declared.result.Result.the-variants.{Ok, Err};
 ghost use Rattle.std.specs.Vec.{made};
 ghost use Rattle.flows.specs.Flows.{countedArcs};
-ghost use Rattle.flows.specs.Sums.{limitStep};
+ghost use Rattle.flows.specs.Sums.{ceilDiv, limitStep};
 ghost use Rattle.network.specs.declared.faults.NetworkFault.the-variants.{ShortTrail};
 ghost use Rattle.network.specs.Nets.{arcsOf};
 ghost use Rattle.network.specs.Runs.{ZeroAfter};
@@ -48,6 +48,14 @@ fn capacity_under(cut: Cut, limit: u32) -> u32
     cut.fixed + cut.counted * limit
 }
 
+// n / k, rounded up.
+fn rounded_up(n: u32, k: u32) -> u32
+    requires { ⌜ 0 < k ⌝ }
+    ensures { λ r. ⌜ r ≡ ceilDiv n k ⌝ }
+{
+    n.div_ceil(k)
+}
+
 // The limit that a cut asks for: what its uncounted arcs leave of the wanted size, divided by the
 // number of its counted arcs, rounded up.
 fn next_limit(cut: Cut, wanted: Amount) -> Amount
@@ -55,7 +63,7 @@ fn next_limit(cut: Cut, wanted: Amount) -> Amount
     requires some { ⌜ 0 < cut .counted ⌝ }
     ensures { λ r. ⌜ r .value ≡ limitStep (wanted .value) (cut .fixed) (cut .counted) ⌝ }
 {
-    match Amount::new((wanted.value() - cut.fixed).div_ceil(cut.counted)) {
+    match Amount::new(rounded_up(wanted.value() - cut.fixed, cut.counted)) {
         Ok(limit) => limit,
         Err(_) => unreachable(),
     }

@@ -1,9 +1,10 @@
-use mathlib.Core.Path.{ap, _∙_}
-use Rattle.flows.specs.Sums.{limitStep}
-use Rattle.limit_search.proofs.Figures.{step-at}
+use native.Mathlib.Nat.{mul-le-mul-right}
+use native.Mathlib.Omega.{arith}
+use Rattle.flows.proofs.Cuts.{least-enough}
 use Rattle.limit_search.proofs.next_limit.Needs as need
 
-pub returns : need.returns
-returns c =
+pub unreachable-requires : need.unreachable-requires
+unreachable-requires c κs =
     let cut = c .args .cut in
-    c .in-Ok .ensures tt ∙ c .div-ceil .ensures ∙ step-at (c .value .result) (cut .fixed) (cut .counted) (c .pre .some) ∙ ap (λ w. limitStep w (cut .fixed) (cut .counted)) (c .value .ensures)
+    let few = least-enough (c .value .result) (cut .fixed) (cut .counted) (c .value .result) (c .pre .some) (omega (arith, mul-le-mul-right (c .value .result) (c .pre .some))) in
+    omega (arith, c .in-Err .ensures tt)
