@@ -1,10 +1,12 @@
 -- Sums below n.
 use Prim.Native.Nat.{ℕ, zero, suc, _+_, _*_, _≤_, _<_}
 use mathlib.Core.Path.{_≡_}
-use mathlib.Core.Logic.{inl, inr}
+use mathlib.Core.Logic.{inl, inr, _≢_}
 use native.Mathlib.Omega.{arith}
-use Rattle.std.proofs.shelf.Tests.{cases-lt}
-use Rattle.flows.specs.Sums.{sumTo}
+use lib.Dec.{eqb}
+use Rattle.std.proofs.shelf.Tests.{cases-lt, cases-eq}
+use Rattle.std.proofs.shelf.Ways.{tells}
+use Rattle.flows.specs.Sums.{sumTo, only}
 
 pub sum-balance : (f g h k : ℕ → ℕ) → ((i : ℕ) → f i + g i ≡ h i + k i) → (n : ℕ) → sumTo n f + sumTo n g ≡ sumTo n h + sumTo n k
 sum-balance f g h k e zero = omega arith
@@ -36,3 +38,20 @@ sum-equal f g (suc n) e s i h =
 pub sum-linear : (f g h : ℕ → ℕ) (c n : ℕ) → ((i : ℕ) → f i ≡ g i + h i * c) → sumTo n f ≡ sumTo n g + sumTo n h * c
 sum-linear f g h c zero e = omega arith
 sum-linear f g h c (suc n) e = omega (arith, e n, sum-linear f g h c n e)
+
+-- one term changes
+pub sum-change : (f g : ℕ → ℕ) (i n : ℕ) → i < n → ((j : ℕ) → j ≢ i → f j ≡ g j) → sumTo n f + g i ≡ sumTo n g + f i
+sum-change f g i zero h e = absurd (omega arith)
+sum-change f g i (suc n) h e =
+    elim (cases-lt i n) [
+      | inl l ↦ let ne : n ≢ i = omega arith in omega (arith, sum-change f g i n l e, e n ne)
+      | inr l ↦ let at : i ≡ n = omega arith in let u = sum-same f g n (λ j k. e j (omega arith)) in rw at (omega arith)
+    ]
+
+-- one term of a sum
+pub term-le : (f : ℕ → ℕ) (i n : ℕ) → i < n → f i ≤ sumTo n f
+term-le f i n h =
+    let one : (j : ℕ) → j ≢ i → only (eqb j i) (f i) ≡ 0 = λ j ne. grind (arith, tells) in
+    let here : only (eqb i i) (f i) ≡ f i = grind (arith, tells) in
+    let le : sumTo n (λ j. only (eqb j i) (f i)) ≤ sumTo n f = sum-le _ _ n (λ j l. elim (cases-eq j i) [ inl q ↦ rw q (omega arith) | inr ne ↦ omega (arith, one j ne) ]) in
+    omega (arith, sum-change (λ j. only (eqb j i) (f i)) (λ _. 0) i n h one, sum-none (λ _. 0) n (λ j l. omega arith))

@@ -1,0 +1,3 @@
+pub mod Preflows
+pub mod Moves
+pub mod Lines

@@ -1,0 +1,25 @@
+// An arc, as one of its ends sees it.
+ghost use mathlib.Core.Path.{_≡_};
+ghost use Rattle.path_engine.specs.Residual.{farEnd, residualOf};
+use flows::Arc;
+use network::Amount;
+
+/// The other end of an arc that ends at a node.
+pub(crate) fn far_end(arc: Arc, node: u8) -> u8
+    ensures { λ r. ⌜ r ≡ farEnd arc node ⌝ }
+{
+    if arc.tail == node { arc.head } else { arc.tail }
+}
+
+/// How much more can leave a node by an arc that carries so much.
+pub(crate) fn residual_from(arc: Arc, carried: u32, limit: Amount, node: u8) -> u32
+    ensures { λ r. ⌜ r ≡ residualOf (limit .value) arc carried node ⌝ }
+{
+    if arc.tail == node {
+        arc.capacity_under(limit.value()).saturating_sub(carried)
+    } else if arc.head == node {
+        carried
+    } else {
+        0
+    }
+}
