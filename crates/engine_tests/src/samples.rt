@@ -5,7 +5,7 @@ use network::Capacity;
 use network::Network;
 use std::test::*;
 
-pub fn fixed(tail: u8, head: u8, most: u32) -> Arc {
+pub(crate) fn fixed(tail: u8, head: u8, most: u32) -> Arc {
     Arc {
         tail,
         head,
@@ -13,7 +13,7 @@ pub fn fixed(tail: u8, head: u8, most: u32) -> Arc {
     }
 }
 
-pub fn counted(tail: u8, head: u8) -> Arc {
+pub(crate) fn counted(tail: u8, head: u8) -> Arc {
     Arc {
         tail,
         head,
@@ -22,7 +22,7 @@ pub fn counted(tail: u8, head: u8) -> Arc {
 }
 
 /// The network of these nodes and arcs.
-pub fn network_of(nodes: u8, arcs: &[Arc]) -> Result<Network, Fail> {
+pub(crate) fn network_of(nodes: u8, arcs: &[Arc]) -> Result<Network, Fail> {
     let mut net = Network::empty();
     match net.fill(nodes, arcs) {
         Ok(()) => Ok(net),
@@ -30,7 +30,7 @@ pub fn network_of(nodes: u8, arcs: &[Arc]) -> Result<Network, Fail> {
     }
 }
 
-pub fn amount(value: u32) -> Result<Amount, Fail> {
+pub(crate) fn amount(value: u32) -> Result<Amount, Fail> {
     match Amount::new(value) {
         Ok(amount) => Ok(amount),
         Err(_) => Err(Fail::new("no amount")),

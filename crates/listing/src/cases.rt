@@ -21,17 +21,17 @@ const MOST: u32 = 4;
 
 /// What was tried, with the engines that tried it.
 #[derive(Drop)]
-pub struct Tally {
-    pub networks: u32,
-    pub runs: u32,
-    pub searches: u32,
-    pub disagreements: u32,
+pub(crate) struct Tally {
+    pub(crate) networks: u32,
+    pub(crate) runs: u32,
+    pub(crate) searches: u32,
+    pub(crate) disagreements: u32,
     path: PathEngine,
     push: PushEngine,
 }
 
 impl Tally {
-    pub fn new() -> Tally {
+    pub(crate) fn new() -> Tally {
         Tally {
             networks: 0,
             runs: 0,
@@ -131,7 +131,7 @@ fn arc_of(place: (u8, u8), kind: u32) -> Option<Arc> {
 
 /// Tries every network of four nodes with no arc, an arc of capacity 1 or 2, or a counted arc at
 /// each place: 4^7 networks.
-pub fn small_networks(heap: Global, tally: &mut Tally) -> Result<(), AllocError> {
+pub(crate) fn small_networks(heap: Global, tally: &mut Tally) -> Result<(), AllocError> {
     for number in 0..16_384u32 {
         let mut arcs = Vec::new(heap);
         let mut rest = number;
@@ -190,7 +190,7 @@ impl Random {
 
 /// Tries so many random networks of two to five nodes and up to six arcs, with counted arcs
 /// anywhere.
-pub fn random_networks(
+pub(crate) fn random_networks(
     heap: Global,
     seed: u32,
     count: u32,

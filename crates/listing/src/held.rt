@@ -14,14 +14,14 @@ use network::Side;
 
 /// A small network, its arcs and how many nodes it has.
 #[derive(Clone, Copy)]
-pub struct Case<'a> {
-    pub net: &'a Network,
-    pub nodes: u8,
-    pub arcs: &'a [Arc],
+pub(crate) struct Case<'a> {
+    pub(crate) net: &'a Network,
+    pub(crate) nodes: u8,
+    pub(crate) arcs: &'a [Arc],
 }
 
 /// Whether one run answers as the listing says, where `sizes` are those of all flows under the limit.
-pub fn run_agrees<E: Engine>(
+pub(crate) fn run_agrees<E: Engine>(
     engine: &mut E,
     case: &Case<'_>,
     limit: u32,
@@ -54,7 +54,7 @@ pub fn run_agrees<E: Engine>(
 
 /// Whether a search answers as the listing says, where `least` is the least limit that admits the
 /// wanted size, if one does.
-pub fn search_agrees<E: Engine>(
+pub(crate) fn search_agrees<E: Engine>(
     engine: &mut E,
     case: &Case<'_>,
     wanted: u32,

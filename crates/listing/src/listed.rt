@@ -3,7 +3,7 @@ use network::Arc;
 use network::Capacity;
 
 /// What an arc can carry under a limit.
-pub fn most_on(arc: &Arc, limit: u32) -> u32 {
+pub(crate) fn most_on(arc: &Arc, limit: u32) -> u32 {
     match arc.capacity {
         Capacity::Fixed(most) => most,
         Capacity::Counted => limit,
@@ -28,7 +28,7 @@ fn balance(arcs: &[Arc], flow: &[u32], node: u8) -> (i64, i64) {
 }
 
 /// The size of a flow under a limit, if the list is one.
-pub fn size_of(nodes: u8, arcs: &[Arc], limit: u32, flow: &[u32]) -> Option<i64> {
+pub(crate) fn size_of(nodes: u8, arcs: &[Arc], limit: u32, flow: &[u32]) -> Option<i64> {
     for (arc, x) in arcs.iter().zip(flow.iter()) {
         if *x > most_on(arc, limit) {
             return None;
@@ -64,7 +64,7 @@ fn list_at(arcs: &[Arc], limit: u32, number: u64, flow: &mut [u32]) {
 }
 
 /// The sizes of all flows under a limit, as a set: bit n stands for size n.
-pub fn sizes(nodes: u8, arcs: &[Arc], limit: u32, flow: &mut [u32]) -> u64 {
+pub(crate) fn sizes(nodes: u8, arcs: &[Arc], limit: u32, flow: &mut [u32]) -> u64 {
     let mut sizes = 0u64;
     for number in 0..lists(arcs, limit) {
         list_at(arcs, limit, number, flow);
@@ -76,7 +76,7 @@ pub fn sizes(nodes: u8, arcs: &[Arc], limit: u32, flow: &mut [u32]) -> u64 {
 }
 
 /// The set of one number; none for what is no number below 64.
-pub fn bit(number: i64) -> u64 {
+pub(crate) fn bit(number: i64) -> u64 {
     match u32::try_from(number) {
         Ok(n) if n < 64 => 1 << n,
         _ => 0,
@@ -84,7 +84,7 @@ pub fn bit(number: i64) -> u64 {
 }
 
 /// The capacity of a side under a limit, if the set of nodes is a side.
-pub fn side_capacity(nodes: u8, arcs: &[Arc], limit: u32, side: u64) -> Option<i64> {
+pub(crate) fn side_capacity(nodes: u8, arcs: &[Arc], limit: u32, side: u64) -> Option<i64> {
     let beyond = if nodes < 64 { side >> nodes } else { 0 };
     if side & 3 != 1 || beyond != 0 {
         return None;
@@ -103,7 +103,7 @@ fn has(side: u64, node: u8) -> bool {
 }
 
 /// The least capacity of all sides under a limit.
-pub fn least_capacity(nodes: u8, arcs: &[Arc], limit: u32) -> i64 {
+pub(crate) fn least_capacity(nodes: u8, arcs: &[Arc], limit: u32) -> i64 {
     let mut least = i64::MAX;
     for side in 0..64u64 {
         if let Some(capacity) = side_capacity(nodes, arcs, limit, side) {

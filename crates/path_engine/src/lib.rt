@@ -7,3 +7,5 @@ mod steps;
 pub use engine::PathEngine;
 pub use engine::PathEngineRuns;
 pub use engine::reach;
+pub use steps::far_end;
+pub use steps::residual_from;

@@ -6,11 +6,11 @@ ghost use Rattle.line.specs.Waiting.{waiting, capacity};
 ghost use Rattle.push_engine.specs.Preflows.{Holds, pending};
 ghost use Rattle.push_engine.specs.Moves.{Stepped, Settled};
 ghost use Rattle.push_engine.specs.Lines.{Queued, QueuedBut, Drained};
-use crate::arcs::far_end;
-use crate::arcs::residual_from;
 use crate::preflow::Preflow;
 use flows::Arc;
 use line::Line;
+use path_engine::far_end;
+use path_engine::residual_from;
 
 impl Preflow {
     // Pushes from a node to lower ones, until nothing waits there, or says how high the node is to

@@ -1,5 +1,4 @@
 // A flow engine by preflows and node heights.
-mod arcs;
 mod discharge;
 mod engine;
 mod preflow;

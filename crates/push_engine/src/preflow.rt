@@ -8,11 +8,11 @@ ghost use Rattle.path_engine.specs.Residual.{residual};
 ghost use Rattle.push_engine.specs.Preflows.{ceiling, Holds, fresh, pending, pushable, sent, raised};
 ghost use Rattle.push_engine.specs.Moves.{CanPush};
 ghost use Rattle.push_engine.specs.Lines.{Queued, QueuedBut};
-use crate::arcs::far_end;
-use crate::arcs::residual_from;
 use flows::Arc;
 use line::Line;
 use network::Amount;
+use path_engine::far_end;
+use path_engine::residual_from;
 
 /// What a run is asked: so much from node 0 to node 1, of so many nodes, under a limit.
 #[derive(Clone, Copy)]
