@@ -3,10 +3,8 @@ use Prim.Native.Nat.{ℕ, zero, suc, _+_, _*_, _≤_, _<_}
 use mathlib.Core.Path.{_≡_}
 use mathlib.Core.Logic.{inl, inr, _≢_}
 use native.Mathlib.Omega.{arith}
-use lib.Dec.{eqb}
-use Rattle.std.proofs.shelf.Tests.{cases-lt, cases-eq}
-use Rattle.std.proofs.shelf.Ways.{tells}
-use Rattle.flows.specs.Sums.{sumTo, only}
+use Rattle.std.proofs.shelf.Tests.{cases-lt}
+use Rattle.flows.specs.Sums.{sumTo}
 
 pub sum-balance : (f g h k : ℕ → ℕ) → ((i : ℕ) → f i + g i ≡ h i + k i) → (n : ℕ) → sumTo n f + sumTo n g ≡ sumTo n h + sumTo n k
 sum-balance f g h k e zero = omega arith
@@ -50,8 +48,9 @@ sum-change f g i (suc n) h e =
 
 -- one term of a sum
 pub term-le : (f : ℕ → ℕ) (i n : ℕ) → i < n → f i ≤ sumTo n f
-term-le f i n h =
-    let one : (j : ℕ) → j ≢ i → only (eqb j i) (f i) ≡ 0 = λ j ne. grind (arith, tells) in
-    let here : only (eqb i i) (f i) ≡ f i = grind (arith, tells) in
-    let le : sumTo n (λ j. only (eqb j i) (f i)) ≤ sumTo n f = sum-le _ _ n (λ j l. elim (cases-eq j i) [ inl q ↦ rw q (omega arith) | inr ne ↦ omega (arith, one j ne) ]) in
-    omega (arith, sum-change (λ j. only (eqb j i) (f i)) (λ _. 0) i n h one, sum-none (λ _. 0) n (λ j l. omega arith))
+term-le f i zero h = absurd (omega arith)
+term-le f i (suc n) h =
+    elim (cases-lt i n) [
+      | inl l ↦ omega (arith, term-le f i n l)
+      | inr l ↦ let at : i ≡ n = omega arith in rw at (omega arith)
+    ]

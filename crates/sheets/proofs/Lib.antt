@@ -1,0 +1,13 @@
+pub mod Sums
+pub mod Arcs
+pub mod Ends
+pub mod Picks
+pub mod Whole
+pub mod ToFlow
+pub mod ToSheet
+pub mod Fewest
+pub mod Rules
+pub mod Joins
+pub mod Held
+pub mod Joined
+pub mod Walk
