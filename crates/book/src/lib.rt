@@ -1,6 +1,7 @@
 // A job's book: what was entered of each type, the states of the nozzles, and how the last planning
 // ended. The crate's specs/ say which turns a book refuses, what an accepted one makes of it, and
 // what an outcome promises; its proofs/ hold the laws behind that.
+#![tactic(auto)]
 use network::Cut;
 
 mod faults;

@@ -1,4 +1,5 @@
 // A desk: whole lists of requests to a job, with the caller's tickets and engines.
+#![tactic(auto)]
 mod carrying;
 mod slots;
 

@@ -1,4 +1,5 @@
 // Worked examples of the flow engines and of the search with them.
+#![tactic(auto)]
 #[cfg(test)]
 mod runs;
 #[cfg(test)]

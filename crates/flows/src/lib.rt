@@ -1,5 +1,7 @@
 // Arcs, and the laws of flows and cuts that the search for the least limit rests on. The crate's
 // specs/ say what a flow, a side and a cut are; each law is the contract of a function.
+#![tactic(auto)]
+
 ghost use Rattle.std.specs.Prelude.{◌≡◌};
 ghost use Rattle.flows.specs.Flows.{capacity_under};
 ghost use Rattle.flows.specs.Laws.{LinearCapacity, Conservation, WeakDuality, TightCut, NoLimit, NextLimit, FewerCounted};

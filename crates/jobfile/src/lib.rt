@@ -1,4 +1,5 @@
 // The job file: its records, read in place and written into memory that the caller lends.
+#![tactic(auto)]
 mod copying;
 mod parsing;
 mod reader;

@@ -1,5 +1,7 @@
 // What is wrong with a job file, or with what was to be written, and where. The crate's specs/ say
 // what a job file is, and its proofs/ hold the laws of reading and writing one.
+#![tactic(auto)]
+
 ghost use Rattle.std.specs.Prelude.{◌≡◌};
 ghost use Rattle.jobformat.specs.Faults.{number_of, layer_of, place_of};
 

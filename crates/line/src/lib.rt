@@ -1,4 +1,5 @@
 // The waiting line of the flow engines: first come, first out, in places that the caller lends.
+#![tactic(auto)]
 
 mod line;
 mod node;

@@ -1,4 +1,6 @@
 // Networks, their sides, and what a flow engine is.
+#![tactic(auto)]
+
 mod amounts;
 mod engines;
 mod faults;

@@ -1,4 +1,5 @@
 // Plans a job file from standard input, and prints the outcome and each subtour of the plan.
+#![tactic(auto)]
 ghost use Rattle.std.specs.Prelude.{◌≤◌, length, IfOk};
 
 use anyhow::anyhow;

@@ -1,4 +1,5 @@
 // A flow engine by preflows and node heights.
+#![tactic(auto)]
 mod discharge;
 mod engine;
 mod preflow;

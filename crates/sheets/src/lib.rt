@@ -1,4 +1,5 @@
 // Sheets of subtours, and the network that decides how few will do.
+#![tactic(auto)]
 ghost use Rattle.sheets.specs.Laws.{NoSheetOfAGap, SheetGivesFlow, FlowGivesSheet, NoneFewer, NoSheet, BoardKeepsRules};
 
 mod arc_list;
