@@ -1,5 +1,5 @@
 -- One nozzle more of a mask.
-use Rattle.std.proofs.Common.{◌≡◌, ℕ, suc, ◌+◌, ◌/◌, ◌%◌, ◌^◌, true, false, cond, eqb, List, [], ◌∷◌, ◌++◌, codes, decimal, sym, refl, ap, ◌∙◌, append_assoc, append-nil, add-one, eq-eqb}
+use Rattle.std.proofs.Common.{◌≡◌, ℕ, ◌+◌, ◌/◌, ◌%◌, ◌^◌, true, false, eqb, List, ◌++◌, codes, decimal, sym, ap, ◌∙◌, append_assoc, append-nil, add-one, eq-eqb}
 use lib.Bits.{bit_and, and_mask}
 use Rattle.std.proofs.lemmas.Bool.{ne_eqb}
 use Rattle.inspection.specs.Words.{members}

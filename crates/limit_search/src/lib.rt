@@ -68,7 +68,7 @@ pub fn search<E: Engine>(
 ) -> Result<Found, NetworkFault>
     ensures room { elim result [ Ok f ↦ counted_arcs (arcs_of net.now) + 1 ≤ length trail.old | Err e ↦ (e ≡ ShortTrail (counted_arcs (arcs_of net.now) + 1)) × (length trail.old < counted_arcs (arcs_of net.now) + 1) ] }
     ensures ends { IfOk result (Ends net.now.nodes wanted.value (arcs_of net.now) trail.new flow.new) }
-    ensures counts { elim result [ Ok f ↦ count engine.new ≡ (count engine.old + runs_of f) % 2 ^ 32 | Err e ↦ engine.new ≡ engine.old ] }
+    ensures counts { elim result [ Ok f ↦ E.count engine.new ≡ (E.count engine.old + runs_of f) % 2 ^ 32 | Err e ↦ engine.new ≡ engine.old ] }
     ensures flow { elim result [ Ok f ↦ ZeroAfter (arcs_of net.now) flow.new | Err e ↦ flow.new ≡ flow.old ] }
     ensures trail { elim result [ Ok f ↦ Untouched trail.old trail.new (runs_of f) | Err e ↦ trail.new ≡ trail.old ] }
 {

@@ -1,7 +1,7 @@
 use Rattle.inspection.proofs.fault_text.Goals as goal
 
 pub returns-in-HeaderRange : goal.returns-in-HeaderRange
-returns-in-HeaderRange c = rw c.in-HeaderRange.is c.from-str.ensures.ok
+returns-in-HeaderRange c = rw c.in-HeaderRange.is c.from_str.ensures.ok
 
 pub returns-in-Unwritable : goal.returns-in-Unwritable
 returns-in-Unwritable c = rw c.in-Unwritable.is c.format.ensures.ok

@@ -6,21 +6,21 @@ use Rattle.limit_search.proofs.Figures.{size_at, limit_at, count_more}
 use Rattle.limit_search.proofs.Going.{start, planned, short, next, rest_kept}
 use Rattle.limit_search.proofs.search.Goals as goal
 
-pub overflow-add-needed : goal.overflow-add-needed
-overflow-add-needed g c = omega (arith, c.counted-needed.ensures, few_counted c.args.net.now)
+pub overflow_add-needed : goal.overflow_add-needed
+overflow_add-needed g c = omega (arith, c.counted-needed.ensures, few_counted c.args.net.now)
 
 pub runs-init : goal.runs-init
 runs-init g c = (start _ _ _ _ (omega (arith, c.counted-needed.ensures)), search rules)
 
 -- the size is below what is wanted, so that the sum fits and the difference is no less than 0
-pub capacity-under-requires : goal.capacity-under-requires
-capacity-under-requires g c =
+pub capacity_under-requires : goal.capacity_under-requires
+capacity_under-requires g c =
     let cut = c.cut-cut.ensures in
     let f = c.in-Short.ensures.shown in
     omega (arith, size_at (arcs_of c.args.net.now) c.in-Short.side cut.fixed cut.counted c.value-under.ensures)
 
-pub next-limit-limit-requires : goal.next-limit-limit-requires
-next-limit-limit-requires g c =
+pub next_limit-limit-requires : goal.next_limit-limit-requires
+next_limit-limit-requires g c =
     let cut = c.cut-cut.ensures in
     let f = c.in-Short.ensures.shown in
     let size = size_at (arcs_of c.args.net.now) c.in-Short.side cut.fixed cut.counted c.value-under.ensures in
@@ -31,9 +31,9 @@ runs-preserved g c =
     let arcs = arcs_of c.args.net.now in
     let cut = c.cut-cut.ensures in (
       next c.runs.invariant.0 _ c.value-under.ensures c.run.new.flow (from_source c.args.net.now) c.in-Short.ensures.shown
-          (c.capacity-under.ensures ∙ size_at arcs c.in-Short.side cut.fixed cut.counted c.value-under.ensures)
+          (c.capacity_under.ensures ∙ size_at arcs c.in-Short.side cut.fixed cut.counted c.value-under.ensures)
           (omega (arith, cut.counted))
-          (c.next-limit-limit.ensures ∙ limit_at arcs c.in-Short.side cut.fixed cut.counted c.args.wanted.value),
+          (c.next_limit-limit.ensures ∙ limit_at arcs c.in-Short.side cut.fixed cut.counted c.args.wanted.value),
       ap (λ (n : ℕ). n % 2 ^ 32) (count_more _ _ _ _ _ c.runs.invariant.1 c.run.ensures.counted) ∙ mod-mod _ _,
     )
 
@@ -54,7 +54,7 @@ returns-then-cut-eq0 g c =
       room = omega (arith, c.counted-needed.ensures);
       ends =
           short c.runs.invariant.0 _ c.value-under.ensures c.run.new.flow (from_source c.args.net.now) c.in-Short.ensures.shown
-          (c.capacity-under.ensures ∙ size_at (arcs_of c.args.net.now) c.in-Short.side cut.fixed cut.counted c.value-under.ensures)
+          (c.capacity_under.ensures ∙ size_at (arcs_of c.args.net.now) c.in-Short.side cut.fixed cut.counted c.value-under.ensures)
           c.cut-cut.result cut.side cut.fixed cut.counted c.if-cut-eq0.true;
       counts = count_more _ _ _ _ _ c.runs.invariant.1 c.run.ensures.counted;
       flow = c.run.ensures.rest;

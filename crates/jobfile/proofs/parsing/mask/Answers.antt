@@ -6,5 +6,5 @@ use Rattle.jobfile.proofs.parsing.mask.Goals as goal
 pub returns-in-len1-up : goal.returns-in-len1-up
 returns-in-len1-up c =
     let long : 1 ≤ length c.args.bytes.now = search rules in
-    let test = c.if-is-mask.ensures in
+    let test = c.if-is_mask.ensures in
     sym (ap (mask c.args.nozzles) (one c.args.bytes.now long) ∙ simp (← test))

@@ -4,4 +4,4 @@ use Rattle.jobfile.proofs.writing.write.Goals as goal
 
 pub returns : goal.returns
 returns c =
-    record { out = put_mid-paste c.args.at _ c.args.out.now c.copy-from-slice.new.self c.args.bytes.now (length c.args.bytes.now) c.copy-from-slice.ensures.after (omega arith) refl; end = refl }
+    record { out = put_mid-paste c.args.at _ c.args.out.now c.copy_from_slice.new.self c.args.bytes.now (length c.args.bytes.now) c.copy_from_slice.ensures.after (omega arith) refl; end = refl }

@@ -8,17 +8,17 @@ use Rattle.jobfile.proofs.writing.write_record.Goals as goal
 pub returns-in-Named : goal.returns-in-Named
 returns-in-Named c =
     let fit : c.args.at ≤ length c.args.out.now = omega arith in
-    let w = wrote_then fit (wrote_then fit (wrote_then fit (wrote_then fit (wrote_then fit c.write-at.ensures c.write-number-at.ensures.wrote) c.write-mask-at.ensures) c.write-number-at-2.ensures.wrote) c.write-at-in-Named.ensures) c.write.ensures in
+    let w = wrote_then fit (wrote_then fit (wrote_then fit (wrote_then fit (wrote_then fit c.write-at.ensures c.write_number-at.ensures.wrote) c.write_mask-at.ensures) c.write_number-at-2.ensures.wrote) c.write-at-in-Named.ensures) c.write.ensures in
     record {
-      out = w.out ∙ ap (over c.args.out.now c.args.at) (named_bytes c.args.entry c.fields-fields.result c.map-byte.result c.in-Named.name.now (ap name_of c.in-Named.is) c.fields-fields.ensures c.map-byte.ensures);
-      small = subst (λ f. TwoBytes f.quantity × TwoBytes f.limit) c.fields-fields.ensures (c.write-number-at.ensures.small, c.write-number-at-2.ensures.small);
+      out = w.out ∙ ap (over c.args.out.now c.args.at) (named_bytes c.args.entry c.fields-fields.result c.map_byte.result c.in-Named.name.now (ap name_of c.in-Named.is) c.fields-fields.ensures c.map_byte.ensures);
+      small = subst (λ f. TwoBytes f.quantity × TwoBytes f.limit) c.fields-fields.ensures (c.write_number-at.ensures.small, c.write_number-at-2.ensures.small);
     }
 
-pub returns-in-default : goal.returns-in-default
-returns-in-default c =
+pub returns-in_default : goal.returns-in_default
+returns-in_default c =
     let fit : c.args.at ≤ length c.args.out.now = omega arith in
-    let w = wrote_then fit (wrote_then fit (wrote_then fit c.write-at.ensures c.write-number-at.ensures.wrote) c.write-mask-at.ensures) c.write-number-at-2.ensures.wrote in
+    let w = wrote_then fit (wrote_then fit (wrote_then fit c.write-at.ensures c.write_number-at.ensures.wrote) c.write_mask-at.ensures) c.write_number-at-2.ensures.wrote in
     record {
-      out = w.out ∙ ap (over c.args.out.now c.args.at) (bare_bytes c.args.entry c.fields-fields.result c.map-byte.result (ap name_of c.in-default.is) c.fields-fields.ensures c.map-byte.ensures);
-      small = subst (λ f. TwoBytes f.quantity × TwoBytes f.limit) c.fields-fields.ensures (c.write-number-at.ensures.small, c.write-number-at-2.ensures.small);
+      out = w.out ∙ ap (over c.args.out.now c.args.at) (bare_bytes c.args.entry c.fields-fields.result c.map_byte.result (ap name_of c.in_default.is) c.fields-fields.ensures c.map_byte.ensures);
+      small = subst (λ f. TwoBytes f.quantity × TwoBytes f.limit) c.fields-fields.ensures (c.write_number-at.ensures.small, c.write_number-at-2.ensures.small);
     }

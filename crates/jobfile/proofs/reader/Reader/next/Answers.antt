@@ -2,10 +2,10 @@ use Rattle.std.proofs.Common.{refl, arith}
 use Rattle.jobfile.proofs.Runs.{run_one, run_none}
 use Rattle.jobfile.proofs.reader.Reader.next.Goals as goal
 
-pub returns-in-default : goal.returns-in-default
-returns-in-default c =
+pub returns-in_default : goal.returns-in_default
+returns-in_default c =
     let r = c.args.self.now in
-    let none = run_none r.nozzles r.left r.rest.now c.in-default.field-0 c.in-default.ensures in
+    let none = run_none r.nozzles r.left r.rest.now c.in_default.field-0 c.in_default.ensures in
     record { types = refl; nozzles = refl; «record» = (none, none) }
 
 pub returns : goal.returns

@@ -11,5 +11,5 @@ returns c = record {
   done = search rules;
   written = search rules;
   out = search rules;
-  holds = λ es ok h. holds_more c.args.self.now _ c.args.out.now c.write-record.new.out es (entry_of c.args.entry) h refl refl refl (ap (λ n. c.args.self.now.written + n) c.size.ensures.is) (omega (arith, c.size.ensures.is)) c.write-record.ensures.out (record { quantity = c.write-record.ensures.small.0; limit = c.write-record.ensures.small.1; held = sym c.if-not-is-record.ensures });
+  holds = λ es ok h. holds_more c.args.self.now _ c.args.out.now c.write_record.new.out es (entry_of c.args.entry) h refl refl refl (ap (λ n. c.args.self.now.written + n) c.size.ensures.is) (omega (arith, c.size.ensures.is)) c.write_record.ensures.out (record { quantity = c.write_record.ensures.small.0; limit = c.write_record.ensures.small.1; held = sym c.if-not-is_record.ensures });
 }

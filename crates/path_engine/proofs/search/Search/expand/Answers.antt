@@ -9,7 +9,7 @@ pub discover-requires : goal.discover-requires
 discover-requires c =
     let t = c.loop-k.invariant.1 in
     record {
-      nodes = (t.tree.below c.args.node t.here, omega (arith, c.step-from-step.ensures.to, end_few _ c.requires.arcs c.loop-k.k c.loop-k-test.true c.args.node));
+      nodes = (t.tree.below c.args.node t.here, omega (arith, c.step_from-step.ensures.to, end_few _ c.requires.arcs c.loop-k.k c.loop-k-test.true c.args.node));
       low = omega (arith, t.tree.low c.args.node t.here);
       places = omega (arith, t.once, c.loop-k.invariant.0);
     }
@@ -17,11 +17,11 @@ discover-requires c =
 pub loop-k-preserved : goal.loop-k-preserved
 loop-k-preserved c =
     let i = c.loop-k.invariant in
-    let step = c.step-from-step.ensures in
+    let step = c.step_from-step.ensures in
     elim c.if-step-gt0.branch [
       | then-step-gt0+then-not-holds w ↦
           let next =
-          joined_as c.args.arcs.now c.args.flow.now c.loop-k.self (waiting c.loop-k.line) c.args.node c.loop-k.k c.if-step-gt0.self (waiting c.if-step-gt0.line) c.step-from-step.result
+          joined_as c.args.arcs.now c.args.flow.now c.loop-k.self (waiting c.loop-k.line) c.args.node c.loop-k.k c.if-step-gt0.self (waiting c.if-step-gt0.line) c.step_from-step.result
           (w.self-is ∙ w.discover.ensures.search) (ap waiting w.line-is ∙ w.discover.ensures.line) i.1 c.requires.arcs c.loop-k-test.true step.to step.residual
           w.if-step-gt0.true (sym w.if-not-holds.ensures) in
           (ap capacity w.line-is ∙ (w.discover.ensures.places ∙ i.0), next.0, (next.1.0 ∙ i.2.0, next.1.1 ∙ i.2.1), omega (arith, next.2, i.3))

@@ -33,7 +33,7 @@ loop-visit-preserved-then-not-stops c =
 pub loop-visit-preserved : goal.loop-visit-preserved
 loop-visit-preserved c =
     let i = c.loop-visit.invariant in
-    let over = and_parts c.args.to-sink (has c.loop-visit.search 1) (sym c.if-not-stops.ensures) in
+    let over = and_parts c.args.to_sink (has c.loop-visit.search 1) (sym c.if-not-stops.ensures) in
     (c.in-Some.ensures.room ∙ i.0, stopped _ _ _ _ _ _ _ _ c.in-Some.ensures.first i.1 over.0 over.1, i.2)
 
 pub returns : goal.returns
@@ -43,7 +43,7 @@ returns c =
     let limit_is = i.2.0 ∙ ap (λ (s : Search). s.limit) start in
     record {
       searched =
-          subst (λ (a : Amount). Searched a.value c.args.arcs.now c.args.flow.now c.args.to-sink c.loop-visit.search) limit_is
-          (done _ _ _ _ _ _ c.in-default-pop.ensures.first.0 i.1);
+          subst (λ (a : Amount). Searched a.value c.args.arcs.now c.args.flow.now c.args.to_sink c.loop-visit.search) limit_is
+          (done _ _ _ _ _ _ c.in_default-pop.ensures.first.0 i.1);
       task = (limit_is, i.2.1 ∙ ap (λ (s : Search). room_at s 0) start);
     }

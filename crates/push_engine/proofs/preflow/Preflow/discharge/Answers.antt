@@ -6,7 +6,7 @@ use Rattle.push_engine.proofs.preflow.Preflow.discharge.Goals as goal
 pub returns-in-Some : goal.returns-in-Some
 returns-in-Some c =
     let d = c.in-Some.ensures.drained in
-    let q = c.push-down.new.self in
+    let q = c.push_down.new.self in
     let w = pends q c.args.node d.0.waits in
     let s = raise_steps c.args.arcs.now q c.args.node c.in-Some.height d.0.holds w.inside w.no_sink d.1 in
     record { stepped = rw c.relabel.ensures.raised (record { same = d.0.same; holds = s.holds; less = omega (arith, s.less, d.0.less) }); places = c.relabel.ensures.places; queued = c.relabel.ensures.queued }

@@ -3,16 +3,16 @@ use Rattle.line.specs.Waiting.{waiting}
 use Rattle.push_engine.specs.Preflows.{pending}
 use Rattle.push_engine.proofs.Queues.{called, none_left, alone, nobody}
 use Rattle.push_engine.proofs.preflow.Preflow.settle.Goals as goal
-use Rattle.push_engine.proofs.preflow.Preflow.settle.Goals.{then-is-pending+in-Ok, else-is-pending}
+use Rattle.push_engine.proofs.preflow.Preflow.settle.Goals.{then-is_pending+in-Ok, else-is_pending}
 
 pub loop-node-init : goal.loop-node-init
 loop-node-init c =
     let p = c.args.self.now in
-    elim c.if-is-pending.branch [
-      | then-is-pending+in-Ok w ↦ rw w.line-is
-          (c.requires.holds, refl, w.in-Ok.ensures.room ∙ c.new-line.ensures.room, alone (pending p) _ _ c.new-line.ensures.empty w.in-Ok.ensures.queued c.requires.start (sym w.if-is-pending.ensures))
-      | else-is-pending w ↦ rw w.line-is
-          (c.requires.holds, refl, c.new-line.ensures.room, nobody (pending p) _ c.new-line.ensures.empty c.requires.start (sym w.if-is-pending.ensures))
+    elim c.if-is_pending.branch [
+      | then-is_pending+in-Ok w ↦ rw w.line-is
+          (c.requires.holds, refl, w.in-Ok.ensures.room ∙ c.new-line.ensures.room, alone (pending p) _ _ c.new-line.ensures.empty w.in-Ok.ensures.queued c.requires.start (sym w.if-is_pending.ensures))
+      | else-is_pending w ↦ rw w.line-is
+          (c.requires.holds, refl, c.new-line.ensures.room, nobody (pending p) _ c.new-line.ensures.empty c.requires.start (sym w.if-is_pending.ensures))
     ]
 
 pub discharge-requires : goal.discharge-requires
@@ -22,4 +22,4 @@ discharge-requires c =
 
 pub returns : goal.returns
 returns c =
-    record { same = c.loop-node.invariant.1; holds = c.loop-node.invariant.0; idle = none_left (pending c.loop-node.self) (waiting c.loop-node.line) c.in-default-pop.ensures.first.0 c.loop-node.invariant.3 }
+    record { same = c.loop-node.invariant.1; holds = c.loop-node.invariant.0; idle = none_left (pending c.loop-node.self) (waiting c.loop-node.line) c.in_default-pop.ensures.first.0 c.loop-node.invariant.3 }

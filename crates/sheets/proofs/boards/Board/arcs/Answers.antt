@@ -14,7 +14,7 @@ use Rattle.sheets.proofs.Arcs.{supplies, choices, choices_of, exits}
 use Rattle.sheets.proofs.Held.{types_held, nozzles_held, serves_is, may_is}
 use Rattle.sheets.proofs.Joins.{join_more, join_past}
 use Rattle.sheets.proofs.boards.Board.arcs.Goals as goal
-use Rattle.sheets.proofs.boards.Board.arcs.Goals.{then-goes-to, else-goes-to, then-is-in-service, else-is-in-service}
+use Rattle.sheets.proofs.boards.Board.arcs.Goals.{then-goes_to, else-goes_to, then-is_in_service, else-is_in_service}
 
 pub loop-t-preserved : goal.loop-t-preserved
 loop-t-preserved c = (
@@ -30,20 +30,20 @@ loop-j-preserved c =
     let nozzles = c.nozzles-nozzles.result.now in
     let t = c.loop-t-2.t in
     let j = c.loop-j.j in
-    let is = may_is nozzles j c.loop-j-test.true c.goes-to.result orders t c.goes-to.ensures in
+    let is = may_is nozzles j c.loop-j-test.true c.goes_to.result orders t c.goes_to.ensures in
     let all : total orders ≡ c.value-all.result = ap total c.orders-orders.ensures ∙ sym (c.value-all.ensures ∙ c.total.ensures) in
     let most : most_of (order_at orders t).limit (total orders) ≡ c.most-most.result = ap (most_of (order_at orders t).limit) all ∙ sym c.most-most.ensures.value in
     let S = join_to (length orders) (supplies orders) in
     let C = join_to t (choices_of orders nozzles) in
-    elim c.if-goes-to.branch [
-      | then-goes-to w ↦ (
-        join_more S C (choices orders nozzles t) j _ _ _ c.loop-j.invariant.0 (ap listed w.arcs-is ∙ w.add-then-goes-to.ensures.items)
-            (cond-true (may orders nozzles t j) (choice orders t j ∷ []) [] (is ∙ w.if-goes-to.true)
+    elim c.if-goes_to.branch [
+      | then-goes_to w ↦ (
+        join_more S C (choices orders nozzles t) j _ _ _ c.loop-j.invariant.0 (ap listed w.arcs-is ∙ w.add-then-goes_to.ensures.items)
+            (cond-true (may orders nozzles t j) (choice orders t j ∷ []) [] (is ∙ w.if-goes_to.true)
             ∙ ap (λ n. record { tail = t + 2; head = length orders + 2 + j; capacity = Fixed n } ∷ []) most),
         omega (arith, ap (λ (l : ArcList). l.count) w.arcs-is),
       )
-      | else-goes-to w ↦ (
-        join_past S C (choices orders nozzles t) j _ _ c.loop-j.invariant.0 (ap listed w.arcs-is) (cond-false (may orders nozzles t j) (choice orders t j ∷ []) [] (is ∙ w.if-goes-to.false)),
+      | else-goes_to w ↦ (
+        join_past S C (choices orders nozzles t) j _ _ c.loop-j.invariant.0 (ap listed w.arcs-is) (cond-false (may orders nozzles t j) (choice orders t j ∷ []) [] (is ∙ w.if-goes_to.false)),
         omega (arith, ap (λ (l : ArcList). l.count) w.arcs-is),
       )
     ]
@@ -80,15 +80,15 @@ loop-j-2-preserved c =
     let is = serves_is nozzles j c.loop-j-2-test.true c.is_in_service.result c.is_in_service.ensures in
     let S = join_to (length orders) (supplies orders) in
     let C = join_to (length orders) (choices_of orders nozzles) in
-    elim c.if-is-in-service.branch [
-      | then-is-in-service w ↦ (
-        join_more S C (exits orders nozzles) j _ _ _ c.loop-j-2.invariant.0 (ap listed w.arcs-is ∙ w.add-then-is-in-service.ensures.items)
-            (cond-true (in_service nozzles j) (exit orders j ∷ []) [] (is ∙ w.if-is-in-service.true)
+    elim c.if-is_in_service.branch [
+      | then-is_in_service w ↦ (
+        join_more S C (exits orders nozzles) j _ _ _ c.loop-j-2.invariant.0 (ap listed w.arcs-is ∙ w.add-then-is_in_service.ensures.items)
+            (cond-true (in_service nozzles j) (exit orders j ∷ []) [] (is ∙ w.if-is_in_service.true)
             ∙ ap (λ n. record { tail = n + 2 + j; head = 1; capacity = Counted } ∷ []) (sym (ap length c.orders-orders.ensures))),
         omega (arith, ap (λ (l : ArcList). l.count) w.arcs-is),
       )
-      | else-is-in-service w ↦ (
-        join_past S C (exits orders nozzles) j _ _ c.loop-j-2.invariant.0 (ap listed w.arcs-is) (cond-false (in_service nozzles j) (exit orders j ∷ []) [] (is ∙ w.if-is-in-service.false)),
+      | else-is_in_service w ↦ (
+        join_past S C (exits orders nozzles) j _ _ c.loop-j-2.invariant.0 (ap listed w.arcs-is) (cond-false (in_service nozzles j) (exit orders j ∷ []) [] (is ∙ w.if-is_in_service.false)),
         omega (arith, ap (λ (l : ArcList). l.count) w.arcs-is),
       )
     ]

@@ -7,4 +7,4 @@ pub unreachable-requires : goal.unreachable-requires
 unreachable-requires c =
     let self = c.args.self.now in
     never c.arcs-arcs.ensures.sized _ _ (omega (arith, types_held self, nozzles_held self))
-    (c.as-slice.ensures ∙ c.arcs-arcs.ensures.arcs) c.in-Err.-fault c.in-Err.ensures.1
+    (c.as_slice.ensures ∙ c.arcs-arcs.ensures.arcs) c.in-Err._fault c.in-Err.ensures.1

@@ -4,7 +4,7 @@ use Rattle.sheets.specs.Made.{orders_of}
 use Rattle.sheets.proofs.Held.{nozzles_held, may_is}
 use Rattle.sheets.proofs.Walk.{moved, start, take_arc, no_arc_lem, next_type, finish}
 use Rattle.sheets.proofs.boards.Board.next_pieces.Goals as goal
-use Rattle.sheets.proofs.boards.Board.next_pieces.Goals.{then-goes-to, else-goes-to}
+use Rattle.sheets.proofs.boards.Board.next_pieces.Goals.{then-goes_to, else-goes_to}
 
 pub loop-t-init : goal.loop-t-init
 loop-t-init c = start c.orders-orders.result.now c.nozzles-nozzles.result.now c.args.flow.now c.args.subtour
@@ -17,17 +17,17 @@ loop-j-preserved c =
     let i = c.args.subtour in
     let t = c.loop-t.t in
     let j = c.loop-j.j in
-    let is = may_is nozzles j c.loop-j-test.true c.goes-to.result orders t c.goes-to.ensures in
+    let is = may_is nozzles j c.loop-j-test.true c.goes_to.result orders t c.goes_to.ensures in
     let few : j < 8 = omega (arith, ap length c.nozzles-nozzles.ensures, nozzles_held c.args.self.now) in
-    elim c.if-goes-to.branch [
-      | then-goes-to w ↦
+    elim c.if-goes_to.branch [
+      | then-goes_to w ↦
           moved orders nozzles xs i t (j + 1) _ _ _ _ _ _
-          (take_arc orders nozzles xs i t j c.loop-j.arc _ _ c.loop-j.left c.loop-j.row c.loop-j.invariant (omega arith) (omega arith) few (is ∙ w.if-goes-to.true)
-          w.saturating-sub.ensures w.piece-after.ensures)
+          (take_arc orders nozzles xs i t j c.loop-j.arc _ _ c.loop-j.left c.loop-j.row c.loop-j.invariant (omega arith) (omega arith) few (is ∙ w.if-goes_to.true)
+          w.saturating_sub.ensures w.piece_after.ensures)
           w.arc-is w.left-is w.row-is
-      | else-goes-to w ↦
+      | else-goes_to w ↦
           moved orders nozzles xs i t (j + 1) _ _ _ _ _ _
-          (no_arc_lem orders nozzles xs i t j c.loop-j.arc c.loop-j.left c.loop-j.row c.loop-j.invariant (is ∙ w.if-goes-to.false)) w.arc-is w.left-is w.row-is
+          (no_arc_lem orders nozzles xs i t j c.loop-j.arc c.loop-j.left c.loop-j.row c.loop-j.invariant (is ∙ w.if-goes_to.false)) w.arc-is w.left-is w.row-is
     ]
 
 pub loop-t-preserved : goal.loop-t-preserved

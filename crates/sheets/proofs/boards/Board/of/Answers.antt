@@ -20,13 +20,20 @@ loop-t-preserved c =
       below_more _ _ c.loop-t.invariant.2 (ap is_entered at),
     )
 
-pub invariant-of-result : goal.invariant-of-result
-invariant-of-result c = (search rules, (search rules, (search rules, (search rules, (c.loop-t.invariant.1, (search (rules, places), tt))))))
+pub invariant_of-result : goal.invariant_of-result
+invariant_of-result c = record {
+  some_types = search rules;
+  few_types = search rules;
+  some_nozzles = search rules;
+  few_nozzles = search rules;
+  orders_long = c.loop-t.invariant.1;
+  nozzles_long = search (rules, places);
+}
 
 pub returns : goal.returns
 returns c =
     let types = c.args.types.now in
     let end : c.loop-t.t ≡ length types = omega arith in (
       sym (take_all (length types) types (omega arith)) ∙ subst (λ n. take n types ≡ map entered (take n c.loop-t.orders)) end c.loop-t.invariant.0,
-      sym (take_at _ _ _ (ap length c.copy-from-slice.ensures.after) ∙ c.copy-from-slice.ensures.after),
+      sym (take_at _ _ _ (ap length c.copy_from_slice.ensures.after) ∙ c.copy_from_slice.ensures.after),
     )

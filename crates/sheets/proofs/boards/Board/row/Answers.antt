@@ -22,12 +22,12 @@ returns c =
     let self = c.args.self.now in
     let held = nozzles_held self in
     let n = c.min-count.result in
-    let made = c.next-pieces-row.ensures in
-    let short : n ≤ length c.next-pieces-row.result = omega arith in
+    let made = c.next_pieces-row.ensures in
+    let short : n ≤ length c.next_pieces-row.result = omega arith in
     record {
       row = λ j h l.
-          copied c.next-pieces-row.result c.args.out.now _ n c.copy-from-slice.ensures.after short j (omega arith)
+          copied c.next_pieces-row.result c.args.out.now _ n c.copy_from_slice.ensures.after short j (omega arith)
           ∙ made.pieces j (omega arith)
           ∙ sym (get_or-map-range_with_len (piece_of (orders_of self) (nozzles_of self) c.args.flow.now c.args.subtour) 0 (length (nozzles_of self)) j j 0 h (omega arith));
-      rest = λ k h. kept c.next-pieces-row.result c.args.out.now _ n c.copy-from-slice.ensures.after short k (omega arith);
+      rest = λ k h. kept c.next_pieces-row.result c.args.out.now _ n c.copy_from_slice.ensures.after short k (omega arith);
     }
