@@ -5,13 +5,20 @@ use std::process::Abort;
 use std::test::Fail;
 
 /// The bytes are refused by the file layer with this number and place.
-fn is_refused(rt: &impl Abort, bytes: &[u8], number: u8, place: usize) -> Result<(), Fail> {
+fn is_refused(
+    rt: &impl Abort,
+    bytes: &[u8],
+    number: u8,
+    place: usize,
+    what: &str,
+) -> Result<(), Fail> {
     match Reader::open(bytes) {
         Ok(_) => Err(Fail::new("was read")),
         Err(fault) => {
             assert_eq!(rt;
                 (fault.number(), fault.layer(), fault.place()),
-                (number, 1, place)
+                (number, 1, place),
+                "{what}"
             );
             Ok(())
         },
@@ -35,47 +42,47 @@ fn only_record(rt: &impl Abort, bytes: &[u8]) -> Result<Fields, Fail> {
 
 #[test]
 fn headers(rt: HostRuntime) -> Result<(), Fail> {
-    is_refused(&rt, &[], 11, 0)?;
-    is_refused(&rt, &[0], 12, 0)?;
-    is_refused(&rt, &[25], 12, 0)?;
-    is_refused(&rt, &[0, 1], 12, 0)?;
-    is_refused(&rt, &[1], 11, 1)?;
-    is_refused(&rt, &[24], 11, 1)?;
-    is_refused(&rt, &[1, 0], 12, 1)?;
-    is_refused(&rt, &[1, 9], 12, 1)?;
-    is_refused(&rt, &[1, 8], 11, 2)
+    is_refused(&rt, &[], 11, 0, "no byte")?;
+    is_refused(&rt, &[0], 12, 0, "no type")?;
+    is_refused(&rt, &[25], 12, 0, "25 types")?;
+    is_refused(&rt, &[0, 1], 12, 0, "no type, one nozzle")?;
+    is_refused(&rt, &[1], 11, 1, "one type alone")?;
+    is_refused(&rt, &[24], 11, 1, "24 types alone")?;
+    is_refused(&rt, &[1, 0], 12, 1, "no nozzle")?;
+    is_refused(&rt, &[1, 9], 12, 1, "9 nozzles")?;
+    is_refused(&rt, &[1, 8], 11, 2, "a header alone")
 }
 
 #[test]
 fn maps_and_numbers(rt: HostRuntime) -> Result<(), Fail> {
-    is_refused(&rt, &[1, 1, 16], 12, 2)?;
-    is_refused(&rt, &[1, 1, 4], 12, 2).note("a limit without a mask")?;
-    is_refused(&rt, &[1, 1, 5, 1, 0, 1, 0], 12, 2).note("a limit without a mask")?;
-    is_refused(&rt, &[1, 1, 1], 11, 3)?;
-    is_refused(&rt, &[1, 1, 1, 9], 11, 4).note("half a quantity")?;
-    is_refused(&rt, &[1, 1, 2], 11, 3)?;
-    is_refused(&rt, &[1, 1, 2, 2], 12, 3).note("nozzle 2 of 1")?;
-    is_refused(&rt, &[1, 7, 2, 128], 12, 3).note("nozzle 8 of 7")?;
-    is_refused(&rt, &[1, 1, 6, 1, 9], 11, 5).note("half a limit")?;
-    is_refused(&rt, &[1, 1, 0, 0], 12, 3).note("a byte behind the last record")?;
-    is_refused(&rt, &[2, 1, 0], 11, 3).note("one record of two")
+    is_refused(&rt, &[1, 1, 16], 12, 2, "a bit of no field")?;
+    is_refused(&rt, &[1, 1, 4], 12, 2, "a limit without a mask")?;
+    is_refused(&rt, &[1, 1, 5, 1, 0, 1, 0], 12, 2, "a limit without a mask")?;
+    is_refused(&rt, &[1, 1, 1], 11, 3, "no quantity")?;
+    is_refused(&rt, &[1, 1, 1, 9], 11, 4, "half a quantity")?;
+    is_refused(&rt, &[1, 1, 2], 11, 3, "no mask")?;
+    is_refused(&rt, &[1, 1, 2, 2], 12, 3, "nozzle 2 of 1")?;
+    is_refused(&rt, &[1, 7, 2, 128], 12, 3, "nozzle 8 of 7")?;
+    is_refused(&rt, &[1, 1, 6, 1, 9], 11, 5, "half a limit")?;
+    is_refused(&rt, &[1, 1, 0, 0], 12, 3, "a byte behind the last record")?;
+    is_refused(&rt, &[2, 1, 0], 11, 3, "one record of two")
 }
 
 #[test]
 fn names(rt: HostRuntime) -> Result<(), Fail> {
-    is_refused(&rt, &[1, 1, 8], 11, 3)?;
-    is_refused(&rt, &[1, 1, 8, 0], 12, 3)?;
-    is_refused(&rt, &[1, 1, 8, 21], 12, 3)?;
-    is_refused(&rt, &[1, 1, 8, 2, 65], 11, 5).note("good bytes cut off")?;
-    is_refused(&rt, &[1, 1, 8, 2, 32], 12, 4).note("a wrong byte before the end")?;
-    is_refused(&rt, &[1, 1, 8, 1, 127], 12, 4)?;
+    is_refused(&rt, &[1, 1, 8], 11, 3, "no name")?;
+    is_refused(&rt, &[1, 1, 8, 0], 12, 3, "an empty name")?;
+    is_refused(&rt, &[1, 1, 8, 21], 12, 3, "a name of 21 bytes")?;
+    is_refused(&rt, &[1, 1, 8, 2, 65], 11, 5, "good bytes cut off")?;
+    is_refused(&rt, &[1, 1, 8, 2, 32], 12, 4, "a wrong byte before the end")?;
+    is_refused(&rt, &[1, 1, 8, 1, 127], 12, 4, "a byte above 126")?;
     let Ok(mut reader) = Reader::open(&[1, 1, 8, 2, 33, 126]) else {
         return Err(Fail::new("refused"));
     };
     let Some(Record::Named { name, .. }) = reader.next() else {
         return Err(Fail::new("nameless"));
     };
-    assert!(rt; name == &[33, 126]);
+    assert!(rt; name == [33, 126].as_slice());
     Ok(())
 }
 
@@ -121,11 +128,12 @@ fn told_in_words(rt: HostRuntime) -> Result<(), Fail> {
     let told = report(rt.alloc(), &[1, 2, 11, 5, 0, 2, 2, 65, 49])?;
     assert!(rt;
         told.as_slice()
-            == b"types 1, nozzles 2\ntype 1 A1: quantity 5, nozzles 2, limit none\nwritten again: 9 bytes, the same\n"
+            == b"types 1, nozzles 2\ntype 1 A1: quantity 5, nozzles 2, limit none\nwritten again: 9 bytes, the same\n".as_slice()
     );
     let refused = report(rt.alloc(), &[1])?;
     assert!(rt;
-        refused.as_slice() == b"refused 11 1 1\nthe file ends too early, length in bytes: 1\n"
+        refused.as_slice()
+            == b"refused 11 1 1\nthe file ends too early, length in bytes: 1\n".as_slice()
     );
     Ok(())
 }

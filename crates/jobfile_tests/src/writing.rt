@@ -16,17 +16,22 @@ const LARGEST: Fields = Fields {
 };
 
 /// A writer of one nozzle and one type does not take the record, and changes nothing.
-fn is_unwritable(rt: &impl Abort, record: Record<'_>) -> Result<(), Fail> {
+fn is_unwritable(rt: &impl Abort, record: Record<'_>, what: &str) -> Result<(), Fail> {
     let mut out = [9; 40];
     let Ok(mut writer) = Writer::open(1, 1, &mut out) else {
         return Err(Fail::new("not opened"));
     };
     assert_eq!(rt;
         writer.put(record, &mut out),
-        Err(FileFault::Unwritable { place: 2 })
+        Err(FileFault::Unwritable { place: 2 }),
+        "{what}"
     );
-    assert!(rt; out[2] == 9 && out[39] == 9);
-    assert_eq!(rt; writer.finish(), Err(FileFault::EndsEarly { place: 2 }));
+    assert!(rt; out[2] == 9 && out[39] == 9, "{what}");
+    assert_eq!(rt;
+        writer.finish(),
+        Err(FileFault::EndsEarly { place: 2 }),
+        "{what}"
+    );
     Ok(())
 }
 
@@ -66,14 +71,16 @@ fn records_that_no_file_holds(rt: HostRuntime) -> Result<(), Fail> {
         Record::Bare {
             fields: limit_alone,
         },
+        "a limit without a mask",
     )?;
-    is_unwritable(&rt, Record::Bare { fields: LARGEST }).note("nozzles 2 to 8 of 1")?;
+    is_unwritable(&rt, Record::Bare { fields: LARGEST }, "nozzles 2 to 8 of 1")?;
     is_unwritable(
         &rt,
         Record::Named {
             name: b"",
             fields: NOTHING,
         },
+        "an empty name",
     )?;
     is_unwritable(
         &rt,
@@ -81,6 +88,7 @@ fn records_that_no_file_holds(rt: HostRuntime) -> Result<(), Fail> {
             name: b"123456789012345678901",
             fields: NOTHING,
         },
+        "a name of 21 bytes",
     )?;
     is_unwritable(
         &rt,
@@ -88,6 +96,7 @@ fn records_that_no_file_holds(rt: HostRuntime) -> Result<(), Fail> {
             name: b"R 1",
             fields: NOTHING,
         },
+        "a name with a space",
     )
 }
 
@@ -167,7 +176,7 @@ fn copies(rt: HostRuntime) {
     let file = [2, 2, 3, 5, 0, 3, 3, 2, 0, 2];
     let mut out = [9; 12];
     assert_eq!(rt; copy(&file, &mut out), Ok(10));
-    assert!(rt; &out[0..10] == &file);
+    assert!(rt; out[0..10] == file[0..10]);
     assert!(rt; out[10] == 9 && out[11] == 9);
     let mut small = [9; 9];
     assert_eq!(rt;

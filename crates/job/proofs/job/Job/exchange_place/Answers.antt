@@ -3,8 +3,8 @@ use Rattle.std.proofs.lemmas.List.{get_or-take, length-take-le}
 use Rattle.job.proofs.Fronts.{take_of_set}
 use Rattle.job.proofs.job.Job.exchange_place.Goals as goal
 
-pub returns-in-default : goal.returns-in-default
-returns-in-default c = search (rules, length-take-le, get_or-take, take_of_set)
+pub returns-in_default : goal.returns-in_default
+returns-in_default c = search (rules, length-take-le, get_or-take, take_of_set)
 
 pub returns-then-not-holds : goal.returns-then-not-holds
 returns-then-not-holds c = search (rules, length-take-le, get_or-take, take_of_set)

@@ -4,13 +4,13 @@ use Rattle.job.specs.Jobs.{book_of}
 use Rattle.job.proofs.Always.{kept_of, planned_in, short_in}
 use Rattle.job.proofs.job.Job.plan.Goals as goal
 
-pub returns-in-err-outcome : goal.returns-in-err-outcome
-returns-in-err-outcome g c =
-    let p = err_from_is_err_and c.from-residual.result c.from-residual.ensures.1 in
+pub returns-in_err-outcome : goal.returns-in_err-outcome
+returns-in_err-outcome g c =
+    let p = err_from_is_err_and c.from_residual.result c.from_residual.ensures.1 in
     rw (p.1, p.2) (record { turn = (c.in-err-outcome.ensures.ends, refl); counts = c.in-err-outcome.ensures.counts; kept = kept_of c.args.self.now })
 
-pub invariant-of-self : goal.invariant-of-self
-invariant-of-self g c =
+pub invariant_of-self : goal.invariant_of-self
+invariant_of-self g c =
     let j = c.args.self.now in
     let b = book_of j in
     let flow = c.seek.new.flow in

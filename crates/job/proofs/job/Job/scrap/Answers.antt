@@ -34,8 +34,8 @@ module _ (j : Job) (job n : ℕ) (h : true ≡ held_out (book_of j) job n) where
   rows (Planned cost runs) = sym (rows_same (book_of j).types (book_of j).nozzles after alike j.flow cost)
   rows (Short runs cut) = refl
 
-pub invariant-of-self : goal.invariant-of-self
-invariant-of-self c =
+pub invariant_of-self : goal.invariant_of-self
+invariant_of-self c =
     let j = c.args.self.now in
     let h = c.if-not-holds.ensures in
     let a = alike j c.args.ticket.job c.args.ticket.nozzle h in (

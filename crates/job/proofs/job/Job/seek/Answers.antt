@@ -12,8 +12,8 @@ use Rattle.job.specs.Jobs.{book_of}
 use Rattle.job.proofs.job.Job.seek.Goals as goal
 use Rattle.job.proofs.job.Job.seek.Given as given
 
-pub returns-in-err-found : goal.returns-in-err-found
-returns-in-err-found g c =
+pub returns-in_err-found : goal.returns-in_err-found
+returns-in_err-found g c =
     let board = c.in-ok-board.board in
     let short = c.in-err-found.ensures.room.1 in
     absurd (omega (arith, short, counted_few (orders_of board) (nozzles_of board) _ c.network-net.ensures.arcs, length-take-le board.nozzle_count board.nozzles (omega arith)))

@@ -8,8 +8,8 @@ use Rattle.job.proofs.Always.{kept_of}
 use Rattle.job.proofs.Shows.{no_plan, bad_number, no_room, fine, wide, never_missing, row_is, front, back}
 use Rattle.job.proofs.job.Job.show_subtour.Goals as goal
 
-pub returns-in-default : goal.returns-in-default
-returns-in-default c = record { shown = (no_plan _ _ _ _ c.in-default.not-Planned, refl); kept = kept_of c.args.self.now }
+pub returns-in_default : goal.returns-in_default
+returns-in_default c = record { shown = (no_plan _ _ _ _ c.in_default.not-Planned, refl); kept = kept_of c.args.self.now }
 
 pub returns-then-subtour-lt1 : goal.returns-then-subtour-lt1
 returns-then-subtour-lt1 c =
@@ -22,15 +22,15 @@ returns-then-out-needed c =
       kept = kept_of c.args.self.now;
     }
 
-pub returns-in-err-board : goal.returns-in-err-board
-returns-in-err-board c = absurd (never_missing c.args.self.now c.in-Planned.cost c.in-Planned.runs _ c.in-Planned.is c.in-err-board.ensures)
+pub returns-in_err-board : goal.returns-in_err-board
+returns-in_err-board c = absurd (never_missing c.args.self.now c.in-Planned.cost c.in-Planned.runs _ c.in-Planned.is c.in_err-board.ensures)
 
 pub returns : goal.returns
 returns c =
     let j = c.args.self.now in
     let n = c.args.subtour in
-    let board = c.in-ok-board.board in
-    let made = c.in-ok-board.ensures in
+    let board = c.in_ok-board.board in
+    let made = c.in_ok-board.ensures in
     let w = row_of (orders_of board) (nozzles_of board) j.flow (n - 1) in
     let r = length (book_of j).nozzles in
     let many : r ≡ length (nozzles_of board) = ap length made.1 in
