@@ -1,6 +1,7 @@
 // Plans a job file from standard input many times, for timing: bench PLANS ENGINE, with `path` or
 // `push` for ENGINE.
 #![tactic(auto)]
+
 ghost use Rattle.std.specs.Prelude.{◌≡◌, ◌+◌, ◌-◌, ◌^◌, min};
 ghost use Rattle.book.specs.Books.{runs_of};
 ghost use Rattle.bench.specs.Costs.{cost_of};

@@ -1,6 +1,6 @@
 -- A promise speaks of the nozzles only by which of them are in service, so that it outlasts the
 -- scrapping of a nozzle that is out.
-use Rattle.std.proofs.Common.{◌≡◌, ℕ, ◌+◌, ◌-◌, ◌<◌, ◌≤◌, Bool, true, false, ◌&&◌, List, [], ◌∷◌, ◌++◌, map, length, get_or, set, Some, sym, refl, ap, ◌∙◌, subst, subst₂, inl, inr, arith, length-set, get_or-set_other, get_or-set_same}
+use Rattle.std.proofs.Common.{◌≡◌, ℕ, ◌+◌, ◌-◌, Bool, true, false, ◌&&◌, List, [], ◌∷◌, ◌++◌, map, length, get_or, set, Some, sym, refl, ap, ◌∙◌, subst, subst₂, inl, inr, arith, length-set, get_or-set_other, get_or-set_same}
 use mathlib.Core.Path.{fun_ext}
 use Rattle.std.specs.List.{range_with_len}
 use Rattle.std.proofs.lemmas.List.{get_or_past, get_or_default}
@@ -16,7 +16,7 @@ use Rattle.sheets.specs.declared.NozzleState.TheVariants.{InService, Out, Scrapp
 use Rattle.sheets.specs.declared.TypeRecord.{TypeRecord}
 use Rattle.sheets.specs.declared.Order.{Order}
 use Rattle.sheets.specs.Sheets.{IsSheet, serves, in_service, taken, type_at}
-use Rattle.sheets.specs.Boards.{order_at, nozzle_node, supply, choice, exit, join_to, when, board_arcs, picks, sheet_of}
+use Rattle.sheets.specs.Boards.{order_at, nozzle_node, supply, choice, exit, join_to, when, picks, sheet_of}
 use Rattle.book.specs.Books.{orders_in, is_out}
 use Rattle.book.specs.Keeps.{nodes_in, arcs_in, total_in, in_service_count, nozzles_across, TrailKept, PlannedKept, ShortKept}
 

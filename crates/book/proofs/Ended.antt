@@ -1,13 +1,12 @@
 -- What the search of a book's network shows of the book.
-use Rattle.std.proofs.Common.{◌≡◌, ℕ, ◌+◌, ◌-◌, ◌*◌, ◌<◌, ◌≤◌, Bool, List, [], map, length, take, sym, refl, ap, ◌∙◌, subst, ap₂, subst₂, arith}
+use Rattle.std.proofs.Common.{◌≡◌, ℕ, ◌+◌, ◌-◌, ◌<◌, ◌≤◌, Bool, List, [], map, length, take, sym, refl, ap, ◌∙◌, subst, ap₂, subst₂, arith}
 use mathlib.Core.Path.{subst₃}
 use Rattle.std.proofs.lemmas.List.{get_or-take, length-take-le}
 use Rattle.flows.specs.declared.Arc.{Arc}
-use Rattle.flows.specs.Sums.{sum_to, only}
+use Rattle.flows.specs.Sums.{only}
 use Rattle.flows.specs.Flows.{crosses, counted_of, counted_across, counted_arcs, inside, next_limit}
-use Rattle.flows.proofs.Sums.{sum_none, sum_same}
+use Rattle.flows.proofs.Sums.{sum_none}
 use Rattle.network.specs.declared.sides.Cut.{Cut}
-use Rattle.network.specs.Runs.{Reaches}
 use Rattle.limit_search.specs.declared.Step.{Step}
 use Rattle.limit_search.specs.declared.Found.{Found}
 use Rattle.limit_search.specs.Trails.{no_step, step_at, side_of, ShortStep, ShowsRuns, PlannedBy, ShortBy, Ends}
@@ -21,7 +20,7 @@ use Rattle.sheets.proofs.Arcs.{sum_arcs_lem}
 use Rattle.sheets.proofs.Fewest.{flow_sheet, no_sheet, none_fewer}
 use Rattle.book.specs.Books.{orders_in}
 use Rattle.book.specs.Keeps.{nodes_in, arcs_in, total_in, in_service_count, nozzles_across, TrailKept, PlannedKept, ShortKept}
-use Rattle.book.proofs.Orders.{entered_are, orders_are, complete}
+use Rattle.book.proofs.Orders.{orders_are, complete}
 
 -- the counted arcs of a board are the arcs of its nozzles in service
 module _ (orders : List Order) (nozzles : List NozzleState) where

@@ -1,5 +1,5 @@
 -- The orders of a book in which nothing is missing.
-use Rattle.std.proofs.Common.{◌≡◌, ℕ, zero, suc, ◌+◌, ◌<◌, ◌≤◌, Bool, true, false, cond, List, [], ◌∷◌, map, length, Some, None, Option, sym, refl, ap, ◌∙◌, subst, arith}
+use Rattle.std.proofs.Common.{◌≡◌, ℕ, zero, suc, ◌+◌, ◌<◌, ◌≤◌, Bool, true, false, cond, List, [], ◌∷◌, map, length, Some, None, sym, refl, ap, ◌∙◌, arith}
 use lib.ListN.{length-map}
 use Rattle.std.proofs.lemmas.List.{get_or-map}
 use Rattle.sheets.specs.declared.NozzleState.{NozzleState}
@@ -10,7 +10,6 @@ use Rattle.sheets.specs.declared.boards.BoardFault.TheVariants.{BadSize, NotEnte
 use Rattle.sheets.specs.Sheets.{type_at}
 use Rattle.sheets.specs.Boards.{entered, is_entered, no_order}
 use Rattle.sheets.specs.Made.{Refused, SizeOk}
-use Rattle.book.specs.declared.faults.JobFault.{JobFault}
 use Rattle.book.specs.declared.faults.JobFault.TheVariants.{NotEntered}
 use Rattle.book.specs.Books.{orders_in}
 use Rattle.book.specs.Faults.{of_board}

@@ -1,5 +1,5 @@
 -- What an outcome promises has one proof at most, so that it comes out of its truncation.
-use Rattle.std.proofs.Common.{◌≡◌, ℕ, suc, ◌≤◌, List, Some, None, Option, refl, ap, arith}
+use Rattle.std.proofs.Common.{◌≡◌, ℕ, suc, List, Some, None, Option, refl, ap, arith}
 use base.Stored.{Coded, coded_via, coded_ℕ}
 use mathlib.Core.Logic.{∥∥₁_elim}
 use denote.Struct.Props.{props}

@@ -1,5 +1,5 @@
 -- A job's book: the figures that turns are judged by. It holds no flow and no trail.
-use Rattle.std.specs.Prelude.{ℕ, suc, ◌-◌, Bool, true, false, cond, ◌&&◌, List, [], ◌∷◌, ◌++◌, length, replicate, Some, None, Option, nat_le, slice_index_or, slice_set}
+use Rattle.std.specs.Prelude.{ℕ, ◌-◌, Bool, true, false, ◌&&◌, List, [], ◌∷◌, ◌++◌, replicate, Some, None, Option, nat_le, slice_index_or, slice_set}
 use Rattle.sheets.specs.declared.NozzleState.{NozzleState}
 use Rattle.sheets.specs.declared.NozzleState.TheVariants.{InService, Out, Scrapped}
 use Rattle.sheets.specs.declared.TypeRecord.{TypeRecord}

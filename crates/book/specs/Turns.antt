@@ -1,5 +1,5 @@
 -- The turns of a job, and which of them its book refuses.
-use Rattle.std.specs.Prelude.{ℕ, suc, ◌-◌, ◌^◌, Bool, true, false, cond, ◌&&◌, List, [], ◌∷◌, length, Some, None, Option, ◌==◌, nat_le, nat_lt}
+use Rattle.std.specs.Prelude.{ℕ, suc, ◌^◌, Bool, true, cond, ◌&&◌, List, [], ◌∷◌, length, Some, None, Option, ◌==◌, nat_le, nat_lt}
 use Rattle.sheets.specs.declared.TypeRecord.{TypeRecord}
 use Rattle.sheets.specs.Sheets.{serves}
 use Rattle.sheets.specs.Boards.{is_entered}
@@ -7,7 +7,7 @@ use Rattle.book.specs.declared.Outcome.{Outcome}
 use Rattle.book.specs.declared.Outcome.TheVariants.{None as Unplanned, Planned, Short}
 use Rattle.book.specs.declared.faults.JobFault.{JobFault}
 use Rattle.book.specs.declared.faults.JobFault.TheVariants.{BadSize, NoSuchType, NoSuchNozzle, TooLarge, NotInService, NotOut, NotEntered, NoPlan, NoSuchPart, NoRoom}
-use Rattle.book.specs.Books.{Book, within, state_at, is_out, runs_of}
+use Rattle.book.specs.Books.{Book, within, state_at, is_out}
 
 -- what a turn passes in, but for an engine: a ticket is its two numbers, the job's and the nozzle's,
 -- and lent memory is its number of places

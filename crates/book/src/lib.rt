@@ -2,6 +2,7 @@
 // ended. The crate's specs/ say which turns a book refuses, what an accepted one makes of it, and
 // what an outcome promises; its proofs/ hold the laws behind that.
 #![tactic(auto)]
+
 use network::Cut;
 
 mod faults;

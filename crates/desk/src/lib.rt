@@ -1,5 +1,6 @@
 // A desk: whole lists of requests to a job, with the caller's tickets and engines.
 #![tactic(auto)]
+
 mod carrying;
 mod slots;
 

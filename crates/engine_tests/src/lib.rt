@@ -1,5 +1,6 @@
 // Worked examples of the flow engines and of the search with them.
 #![tactic(auto)]
+
 #[cfg(test)]
 mod runs;
 #[cfg(test)]

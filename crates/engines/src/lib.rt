@@ -1,5 +1,6 @@
 // Either of the two flow engines, chosen while the program runs.
 #![tactic(auto)]
+
 ghost use Rattle.engines.specs.Counts.{count_of};
 
 use network::{Amount, Answer, Engine, Network};

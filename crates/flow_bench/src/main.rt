@@ -1,6 +1,7 @@
 // Runs a flow engine many times on the network of a full board, for timing:
 // flow_bench RUNS ENGINE, with `path` or `push` for ENGINE.
 #![tactic(auto)]
+
 use anyhow::anyhow;
 use engines::AnyEngine;
 use network::{Amount, Answer, Arc, Capacity, Engine, Network};

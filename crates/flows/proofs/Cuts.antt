@@ -1,12 +1,12 @@
 -- Flows and cuts: the proofs of specs/Laws.antt.
-use Rattle.std.proofs.Common.{◌≡◌, ℕ, zero, suc, ◌+◌, ◌-◌, ◌*◌, ◌/◌, ◌<◌, ◌≤◌, Bool, true, false, cond, not, ◌&&◌, eqb, ltb, List, length, get_or, ap, inl, inr, mul-le-mul_right, add-sub_of_le, arith}
+use Rattle.std.proofs.Common.{◌≡◌, ℕ, zero, suc, ◌+◌, ◌-◌, ◌*◌, ◌<◌, ◌≤◌, Bool, ◌&&◌, eqb, ltb, List, length, get_or, ap, inl, inr, mul-le-mul_right, add-sub_of_le, arith}
 use Rattle.std.proofs.lemmas.Nat.{div_below, le-div}
 use Rattle.std.proofs.lemmas.Bool.{cases_lt}
 use Rattle.std.proofs.lemmas.Bool.Decides.{nat_tests}
 use Rattle.flows.specs.declared.Arc.{Arc}
 use Rattle.flows.specs.Sums.{sum_to, only, ceil_div}
-use Rattle.flows.specs.Flows.{arc_at, sum_flow, sum_arcs, EachArc, capacity_under, fixed_of, counted_of, inflow, outflow, size, IsFlow, IsSide, Admits, crosses, enters, crossing, entering, side_capacity, fixed_across, counted_across, FromSource, Tight, next_limit}
-use Rattle.flows.specs.Laws.{LinearCapacity, Conservation, WeakDuality, TightCut, NoLimit, Raised, NextLimit, FewerCounted}
+use Rattle.flows.specs.Flows.{arc_at, capacity_under, inflow, outflow, size, IsFlow, IsSide, crosses, enters, crossing, entering, side_capacity, fixed_across, counted_across, FromSource, Tight, next_limit}
+use Rattle.flows.specs.Laws.{LinearCapacity, NoLimit, NextLimit, FewerCounted}
 use Rattle.flows.proofs.Sums.{sum_balance, sum_same, sum_none, sum_le, sum_equal, sum_linear}
 
 pub linear : LinearCapacity

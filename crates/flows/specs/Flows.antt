@@ -1,5 +1,5 @@
 -- Flows and cuts of a network, over its list of arcs. Node 0 is the source and node 1 the sink.
-use Rattle.std.specs.Prelude.{◌≡◌, ℕ, ◌+◌, ◌-◌, ◌/◌, ◌%◌, ◌^◌, ◌<◌, ◌≤◌, Bool, true, false, not, ◌&&◌, List, length, ◌==◌, slice_index, slice_index_or}
+use Rattle.std.specs.Prelude.{◌≡◌, ℕ, ◌/◌, ◌%◌, ◌^◌, ◌<◌, ◌≤◌, Bool, true, false, not, ◌&&◌, List, length, ◌==◌, slice_index, slice_index_or}
 use Rattle.flows.specs.Sums.{sum_to, only, limit_step}
 use Rattle.flows.specs.declared.Arc.{Arc}
 use Rattle.flows.specs.declared.Capacity.{Capacity}

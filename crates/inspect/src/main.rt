@@ -1,5 +1,6 @@
 // Vets a job file from standard input, and tells what it says.
 #![tactic(auto)]
+
 use inspection::report;
 use std::io;
 use std::io::{Read, Write};

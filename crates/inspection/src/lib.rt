@@ -1,5 +1,6 @@
 // A job file told in words that a setter understands.
 #![tactic(auto)]
+
 ghost use Rattle.std.specs.Prelude.{◌≡◌, ◌≤◌, true, ◌++◌, length, IfOk, Ok, string_bytes, codes, OnOk};
 ghost use Rattle.jobformat.specs.Format.{Contents};
 ghost use Rattle.jobformat.specs.Reading.{reading};

@@ -1,9 +1,9 @@
 -- What a copy keeps from record to record.
-use Rattle.std.proofs.Common.{◌≡◌, ℕ, ◌+◌, ◌<◌, ◌≤◌, true, false, cond, ltb, leb, List, [], ◌∷◌, ◌++◌, length, is_ok, Some, None, Ok, Err, Result, sym, refl, ap, ◌∙◌, subst, append_assoc, append-nil, arith, length-append, le-ltb, lt-ltb, le-leb}
+use Rattle.std.proofs.Common.{◌≡◌, ℕ, ◌+◌, ◌<◌, ◌≤◌, true, false, cond, ltb, List, [], ◌∷◌, ◌++◌, length, is_ok, None, Ok, Err, Result, sym, refl, ap, ◌∙◌, append_assoc, append-nil, arith, length-append, le-ltb, lt-ltb, le-leb}
 use Rattle.std.specs.List.{flat_map}
 use Rattle.jobformat.specs.declared.FileFault.{FileFault}
-use Rattle.jobformat.specs.declared.FileFault.TheVariants.{NoRoom, NoSuchRecord, Unwritable, EndsEarly}
-use Rattle.jobformat.specs.Format.{Entry, Contents, encode, fits, AllFine, WellFormed, file_bytes, FileOf}
+use Rattle.jobformat.specs.declared.FileFault.TheVariants.{EndsEarly}
+use Rattle.jobformat.specs.Format.{Entry, Contents, encode, AllFine, FileOf}
 use Rattle.jobfile.specs.declared.writer.Writer.{Writer}
 use Rattle.jobfile.specs.Writes.{over, Wrote, open_fault, put_fault, copied}
 use Rattle.jobfile.proofs.Writes.{wrote_none, wrote_then}

@@ -1,11 +1,10 @@
 -- A record, field by field.
-use Rattle.std.proofs.Common.{◌≡◌, ℕ, ◌-◌, ◌≤◌, Bool, true, false, cond, List, [], ◌∷◌, length, get_or, take, drop, Some, None, Option, sym, refl, ap, ◌∙◌}
+use Rattle.std.proofs.Common.{◌≡◌, ℕ, ◌-◌, ◌≤◌, true, List, length, get_or, take, drop, Some, None, Option, sym, refl, ap, ◌∙◌}
 use lib.Bits.{bit_and}
-use Rattle.std.proofs.lemmas.Bool.{ne_eqb, eq-eqb}
+use Rattle.std.proofs.lemmas.Bool.{ne_eqb}
 use Rattle.jobfile.specs.declared.parsing.Stop.{Stop}
 use Rattle.jobfile.specs.declared.parsing.Stop.TheVariants.{Short, Bad}
-use Rattle.jobformat.specs.Reading.{Parse, got, short, bad, then, has, is_map, number_if, mask_if, name, name_if, fields, entry}
-use Rattle.jobformat.specs.Format.{Entry}
+use Rattle.jobformat.specs.Reading.{Parse, got, then, has, is_map, number_if, mask_if, name, name_if, fields, entry}
 use Rattle.jobfile.specs.Seen.{stopped}
 use Rattle.jobfile.proofs.Slices.{one}
 

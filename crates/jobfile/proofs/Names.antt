@@ -1,8 +1,8 @@
 -- What the loop over a name's bytes finds.
-use Rattle.std.proofs.Common.{◌≡◌, ℕ, zero, suc, ◌+◌, ◌-◌, ◌<◌, ◌≤◌, true, false, List, [], ◌∷◌, length, get_or, take, drop, sym, refl, ap, ◌∙◌, suc-le-suc, zero-le, add-one, arith, drop-cons}
+use Rattle.std.proofs.Common.{◌≡◌, ℕ, zero, suc, ◌+◌, ◌-◌, ◌<◌, ◌≤◌, true, false, List, [], ◌∷◌, length, get_or, take, drop, refl, ap, suc-le-suc, add-one, arith, drop-cons}
 use Rattle.std.proofs.lemmas.List.{drop_all}
 use Rattle.jobformat.specs.Format.{all_graphic}
-use Rattle.jobformat.specs.Reading.{Parse, got, short, bad, then, graphics}
+use Rattle.jobformat.specs.Reading.{got, short, bad, graphics}
 use Rattle.jobformat.specs.Format.{graphic}
 
 -- each of the first n bytes is a graphic

@@ -1,9 +1,9 @@
 -- One record more of a run of records, and a file's parts together.
-use Rattle.std.proofs.Common.{◌≡◌, ℕ, zero, suc, ◌+◌, ◌-◌, ◌<◌, List, [], ◌∷◌, length, sym, refl, ap, ◌∙◌, arith}
+use Rattle.std.proofs.Common.{◌≡◌, ℕ, zero, suc, ◌+◌, ◌-◌, ◌<◌, List, [], ◌∷◌, length, refl, ap, ◌∙◌, arith}
 use Rattle.jobfile.specs.declared.parsing.Stop.{Stop}
 use Rattle.jobfile.specs.declared.parsing.Stop.TheVariants.{Short, Bad}
-use Rattle.jobformat.specs.Reading.{Parse, got, short, bad, then, header, entry, records, run, or_else, file, ended, forget}
-use Rattle.jobformat.specs.Format.{Entry, Contents}
+use Rattle.jobformat.specs.Reading.{Parse, got, short, bad, then, header, entry, records, run, or_else, file, forget}
+use Rattle.jobformat.specs.Format.{Entry}
 use Rattle.jobfile.specs.Seen.{stopped}
 
 forget_more : (e : Entry) (g : Parse (List Entry)) → forget (then g (λ es end. got (e ∷ es) end)) ≡ forget g

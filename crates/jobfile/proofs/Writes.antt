@@ -3,7 +3,6 @@ use Rattle.std.proofs.Common.{◌≡◌, ℕ, ◌+◌, ◌≤◌, List, [], ◌�
 use lib.Seq.{paste}
 use Rattle.std.proofs.lemmas.List.Edits.{paste_none, paste-paste, take-paste, length-paste}
 use Rattle.std.proofs.lemmas.List.{flat_map_more}
-use Rattle.std.specs.List.{flat_map}
 use Rattle.jobfile.specs.declared.records.Fields.{Fields}
 use Rattle.jobfile.specs.declared.records.Record.{Record}
 use Rattle.jobformat.specs.Format.{Entry, number_bytes, mask_bytes, map_of, encode, Fine, AllFine}

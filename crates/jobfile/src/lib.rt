@@ -1,5 +1,6 @@
 // The job file: its records, read in place and written into memory that the caller lends.
 #![tactic(auto)]
+
 mod copying;
 mod parsing;
 mod reader;

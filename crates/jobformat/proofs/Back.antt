@@ -1,9 +1,9 @@
 -- What is written is read back.
-use Rattle.std.proofs.Common.{◌≡◌, ℕ, zero, suc, ◌+◌, ◌*◌, ◌/◌, ◌%◌, ◌^◌, ◌<◌, ◌≤◌, Bool, true, false, cond, not, ◌&&◌, ◌||◌, ltb, leb, List, [], ◌∷◌, ◌++◌, length, is_some, Some, None, Option, sym, refl, ap, ◌∙◌, append_assoc, append-nil, arith, le-leb}
+use Rattle.std.proofs.Common.{◌≡◌, ℕ, suc, ◌+◌, ◌*◌, ◌/◌, ◌%◌, Bool, true, false, cond, not, ◌&&◌, ◌||◌, leb, List, [], ◌∷◌, ◌++◌, length, is_some, Some, None, Option, sym, refl, ap, ◌∙◌, append_assoc, append-nil, arith, le-leb}
 use Rattle.std.proofs.lemmas.Bool.{and_parts}
 use Rattle.std.specs.List.{flat_map}
-use Rattle.jobformat.specs.Reading.{Parse, got, short, bad, then, has, is_map, graphics, number_if, mask_if, name, name_if, fields, entry, records, header, file, ended}
-use Rattle.jobformat.specs.Format.{Entry, Contents, bit, number_bytes, mask_bytes, name_bytes, map_of, encode, graphic, all_graphic, name_fits, mask_fits, fits, TwoBytes, Fine, AllFine, WellFormed, file_bytes}
+use Rattle.jobformat.specs.Reading.{got, bad, has, is_map, graphics, number_if, mask_if, name_if, fields, entry, records, file}
+use Rattle.jobformat.specs.Format.{Entry, Contents, bit, number_bytes, mask_bytes, name_bytes, map_of, encode, graphic, all_graphic, name_fits, mask_fits, fits, AllFine, WellFormed, file_bytes}
 
 -- the fields one after another, from b₀ on
 pub whole : (r m : ℕ) (b₀ b₁ b₂ b₃ b₄ : List ℕ) (q k l : Option ℕ) (n : Option (List ℕ)) → got q b₁ ≡ number_if (has m 1) b₀ → got k b₂ ≡ mask_if (has m 2) r b₁ → got l b₃ ≡ number_if (has m 4) b₂ → got n b₄ ≡ name_if (has m 8) b₃ → got (record { quantity = q; mask = k; limit = l; name = n }) b₄ ≡ fields r m b₀

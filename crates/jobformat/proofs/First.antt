@@ -1,10 +1,9 @@
 -- A reading stops at the first byte that no well-made file has there.
-use Rattle.std.proofs.Common.{◌≡◌, ℕ, zero, suc, ◌+◌, ◌-◌, ◌*◌, ◌^◌, ◌<◌, ◌≤◌, Bool, true, false, cond, ◌&&◌, ltb, leb, List, [], ◌∷◌, ◌++◌, length, take, Some, None, Ok, Err, Option, sym, refl, ap, ◌∙◌, subst, append_assoc, append-nil, arith, length-append, pow_pos, lt-ltb}
+use Rattle.std.proofs.Common.{◌≡◌, ℕ, zero, suc, ◌+◌, ◌-◌, ◌*◌, ◌^◌, ◌<◌, ◌≤◌, Bool, true, false, cond, ◌&&◌, ltb, leb, List, [], ◌∷◌, ◌++◌, length, take, Some, None, Ok, sym, refl, ap, ◌∙◌, subst, append_assoc, append-nil, arith, length-append, pow_pos, lt-ltb}
 use Rattle.jobformat.specs.Reading.{Parse, got, short, bad, then, number, number_if, mask, mask_if, graphics, name, name_if, has, is_map, fields, entry, records, header, ended, file, verdict, reading}
 use Rattle.std.proofs.lemmas.List.{take_at}
-use Rattle.jobformat.specs.declared.FileFault.{FileFault}
-use Rattle.jobformat.specs.declared.FileFault.TheVariants.{EndsEarly, BadByte}
-use Rattle.jobformat.specs.Format.{Contents, graphic, AllBytes, WellFormed, file_bytes, FileOf, IsFile, Begins, FirstFault, Answers}
+use Rattle.jobformat.specs.declared.FileFault.TheVariants.{BadByte}
+use Rattle.jobformat.specs.Format.{Contents, graphic, AllBytes, FileOf, IsFile, Begins, FirstFault, Answers}
 use Rattle.jobformat.proofs.Back.{file_back}
 use Rattle.jobformat.proofs.Only.{file_only, not_bad, not_short}
 

@@ -1,9 +1,9 @@
 -- What is read is what would be written.
-use Rattle.std.proofs.Common.{◌≡◌, ℕ, zero, suc, ◌+◌, ◌*◌, ◌/◌, ◌%◌, ◌^◌, ◌<◌, ◌≤◌, Bool, true, false, cond, not, ◌&&◌, ◌||◌, eqb, ltb, leb, List, [], ◌∷◌, ◌++◌, length, get_or, is_some, Some, None, Option, sym, refl, ap, ◌∙◌, subst, ⊎_elim, append_assoc, append-nil, arith}
+use Rattle.std.proofs.Common.{◌≡◌, ℕ, zero, suc, ◌+◌, ◌*◌, ◌/◌, ◌%◌, ◌^◌, ◌<◌, Bool, true, false, cond, not, ◌&&◌, ◌||◌, eqb, ltb, leb, List, [], ◌∷◌, ◌++◌, length, get_or, is_some, Some, None, Option, sym, refl, ap, ◌∙◌, subst, ⊎_elim, append_assoc, append-nil, arith}
 use Rattle.std.proofs.lemmas.Bool.{and_parts, and_from, ltb-true, leb-true, eqb-true, cases_eq}
 use Rattle.std.specs.List.{flat_map}
-use Rattle.jobformat.specs.Reading.{Parse, got, short, bad, then, has, is_map, graphics, number, number_if, mask, mask_if, name, name_if, fields, entry, records, header, file, ended}
-use Rattle.jobformat.specs.Format.{Entry, Contents, bit, number_bytes, mask_bytes, name_bytes, map_of, encode, graphic, all_graphic, name_fits, mask_fits, fits, TwoBytes, Fine, AllFine, WellFormed, file_bytes, FileOf, AllBytes}
+use Rattle.jobformat.specs.Reading.{Parse, got, short, bad, then, has, is_map, graphics, number_if, mask, mask_if, name, name_if, fields, entry, records, header, file, ended}
+use Rattle.jobformat.specs.Format.{Entry, Contents, number_bytes, mask_bytes, name_bytes, encode, graphic, all_graphic, name_fits, mask_fits, TwoBytes, Fine, AllFine, FileOf, AllBytes}
 use Rattle.jobformat.proofs.Back.{bits}
 
 got_both : {X : Type 0} {x y : X} {r s : List ℕ} → got x r ≡ got y s → (x ≡ y) × (r ≡ s)

@@ -1,5 +1,6 @@
 // The search for the least limit.
 #![tactic(auto)]
+
 ghost use Rattle.std.specs.Prelude.{◌≡◌, ◌+◌, ◌*◌, ◌%◌, ◌^◌, ◌<◌, ◌≤◌, length, IfOk, Ok, Err};
 ghost use Rattle.flows.specs.Flows.{counted_arcs};
 ghost use Rattle.flows.specs.Sums.{ceil_div, limit_step};

@@ -1,5 +1,6 @@
 // Worked examples of the waiting line: no places, a full line, many turns round, visits and nodes.
 #![tactic(auto)]
+
 #[cfg(test)]
 mod tests {
     use line::{Line, Visit};

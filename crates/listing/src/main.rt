@@ -1,6 +1,7 @@
 // Small networks against a full listing: every flow, every side and every limit is listed, and both
 // engines and the search are held to what the listing says.
 #![tactic(auto)]
+
 mod cases;
 mod held;
 mod listed;

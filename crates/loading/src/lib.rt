@@ -1,5 +1,6 @@
 // A job loaded from a job file.
 #![tactic(auto)]
+
 ghost use Rattle.std.specs.Prelude.{◌≡◌, true, length, Ok};
 ghost use Rattle.jobformat.specs.Format.{Answers, Fine};
 ghost use Rattle.jobformat.specs.Reading.{reading};

@@ -1,11 +1,11 @@
 -- What each step of a search leaves.
-use Rattle.std.proofs.Common.{◌≡◌, ℕ, zero, suc, ◌+◌, ◌-◌, ◌<◌, ◌≤◌, min, Bool, true, false, ◌≢◌, ◌⊎◌, List, [], ◌∷◌, ◌++◌, length, get_or, replicate, sym, refl, ap, ◌∙◌, subst, inl, inr, arith, length-set, get_or-set_other, get_or-set_same}
-use Rattle.std.specs.List.{AllByRecursion as All}
+use Rattle.std.proofs.Common.{◌≡◌, ℕ, zero, suc, ◌+◌, ◌<◌, ◌≤◌, min, Bool, true, false, ◌≢◌, ◌⊎◌, List, [], ◌∷◌, ◌++◌, length, get_or, replicate, sym, refl, ap, ◌∙◌, subst, inl, inr, arith, length-set, get_or-set_other, get_or-set_same}
+use Rattle.std.specs.List.{AllByRecursion}
 use Rattle.std.proofs.lemmas.List.{length_push}
 use Rattle.std.proofs.ByRecursion.{All-push, All-weaker}
 use Rattle.std.proofs.lemmas.Bool.{cases_eq, cases_lt, both_ways}
 use Rattle.flows.specs.declared.Arc.{Arc}
-use Rattle.flows.specs.Flows.{inside, arc_at}
+use Rattle.flows.specs.Flows.{arc_at}
 use Rattle.network.specs.declared.amounts.Amount.{Amount}
 use Rattle.line.specs.declared.node.Visit.{Visit}
 use Rattle.path_engine.specs.declared.steps.Step.{Step}
@@ -21,19 +21,19 @@ zeros (suc n) zero = refl
 zeros (suc n) (suc k) = zeros n k
 
 -- lists of visits
-all_both : {X : Type 0} (P Q : X → Type 0) {S : X → Type 0} → ((e : X) → P e → Q e → S e) → (w : List X) → All P w → All Q w → All S w
+all_both : {X : Type 0} (P Q : X → Type 0) {S : X → Type 0} → ((e : X) → P e → Q e → S e) → (w : List X) → AllByRecursion P w → AllByRecursion Q w → AllByRecursion S w
 all_both P Q f [] p q = tt
 all_both P Q f (e ∷ w) p q = (f e p.0 q.0, all_both P Q f w p.1 q.1)
 
-all_split : {X : Type 0} (P : X → Type 0) (w : List X) (e : X) → All P (w ++ e ∷ []) → All P w × P e
+all_split : {X : Type 0} (P : X → Type 0) (w : List X) (e : X) → AllByRecursion P (w ++ e ∷ []) → AllByRecursion P w × P e
 all_split P [] e h = (tt, h.0)
 all_split P (f ∷ w) e h = let i = all_split P w e h.1 in ((h.0, i.0), i.1)
 
-rising_as : (d d' : ℕ → ℕ) (w : List Visit) → All (λ e. d' e.node ≡ d e.node) w → Rising d w → Rising d' w
+rising_as : (d d' : ℕ → ℕ) (w : List Visit) → AllByRecursion (λ e. d' e.node ≡ d e.node) w → Rising d w → Rising d' w
 rising_as d d' [] same r = tt
 rising_as d d' (e ∷ w) same r = (all_both _ _ (λ f p le. omega (arith, p, le, same.0)) w same.1 r.0, rising_as d d' w same.1 r.1)
 
-rising_push : (d : ℕ → ℕ) (w : List Visit) (e : Visit) → Rising d w → All (λ f. d f.node ≤ d e.node) w → Rising d (w ++ e ∷ [])
+rising_push : (d : ℕ → ℕ) (w : List Visit) (e : Visit) → Rising d w → AllByRecursion (λ f. d f.node ≤ d e.node) w → Rising d (w ++ e ∷ [])
 rising_push d [] e r le = (tt, tt)
 rising_push d (f ∷ w) e r le = (All-push (λ g. d f.node ≤ d g.node) w e r.0 le.0, rising_push d w e r.1 le.1)
 
@@ -290,7 +290,7 @@ module _ (L : ℕ) (arcs : List Arc) (x : List ℕ) where
 
     joined' : Turn L arcs x after (w ++ visit ∷ []) n (j + 1)
     joined' =
-        let same_w : All (λ e. depth_at after e.node ≡ depth_at s e.node) w = All-weaker (Waits L arcs x s) _ (λ e r. same_depth e.node (old e.node r.0)) w t.waits in
+        let same_w : AllByRecursion (λ e. depth_at after e.node ≡ depth_at s e.node) w = All-weaker (Waits L arcs x s) _ (λ e r. same_depth e.node (old e.node r.0)) w t.waits in
         let new-at : depth_at after visit.node ≡ depth_at s n + 1 = ap (depth_at after) visit_node ∙ new_depth in
         record {
           tree = tree;

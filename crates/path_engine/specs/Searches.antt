@@ -1,7 +1,7 @@
 -- What holds while a search runs and while more is sent: x is what each arc carries under the limit
 -- L, and w the visits that wait in line.
-use Rattle.std.specs.Prelude.{◌≡◌, ℕ, zero, suc, ◌+◌, ◌-◌, ◌^◌, ◌<◌, ◌≤◌, min, Bool, true, false, cond, ◌≢◌, List, [], ◌∷◌, length, set, replicate, ◌==◌, bit_or, slice_index, slice_set}
-use Rattle.std.specs.List.{AllByRecursion as All}
+use Rattle.std.specs.Prelude.{◌≡◌, ℕ, zero, suc, ◌+◌, ◌-◌, ◌^◌, ◌<◌, ◌≤◌, min, Bool, true, false, cond, ◌≢◌, List, [], ◌∷◌, length, replicate, ◌==◌, bit_or, slice_index, slice_set}
+use Rattle.std.specs.List.{AllByRecursion}
 use Rattle.flows.specs.declared.Arc.{Arc}
 use Rattle.flows.specs.Flows.{IsFlow, inside, size}
 use Rattle.network.specs.declared.amounts.Amount.{Amount}
@@ -55,7 +55,7 @@ LedTo L arcs x s v k = (u : ℕ) × Led L arcs x (has s) (depth_at s) (room_at s
 
 -- no visit of a line is to v
 abbrev pub NoneTo : ℕ → List Visit → Type 0
-NoneTo v w = All (λ e. e.node ≢ v) w
+NoneTo v w = AllByRecursion (λ e. e.node ≢ v) w
 
 -- an arc led to each node that was reached, and more can go there; if the node does not wait, the
 -- arc is written down
@@ -82,7 +82,7 @@ Waits L arcs x s e = (has s e.node ≡ true) × (e.node ≢ 0 → LedTo L arcs x
 -- no visit is to a node nearer than one before it
 abbrev pub Rising : (ℕ → ℕ) → List Visit → Type 0
 Rising d [] = Unit {0}
-Rising d (e ∷ w) = All (λ f. d e.node ≤ d f.node) w × Rising d w
+Rising d (e ∷ w) = AllByRecursion (λ f. d e.node ≤ d f.node) w × Rising d w
 
 -- no node that was reached lies more than one arc further than u
 abbrev pub Near : Search → ℕ → Type 0
@@ -92,21 +92,21 @@ Near s u = (v : ℕ) → has s v ≡ true → depth_at s v ≤ depth_at s u + 1
 -- stops at node 1, of those among them that lie more than one arc before it
 pub record Met (L : ℕ) (arcs : List Arc) (x : List ℕ) (stop : Bool) (s : Search) (w : List Visit) : Type 0 where
   pub tree : Tree L arcs x s w
-  pub waits : All (Waits L arcs x s) w
+  pub waits : AllByRecursion (Waits L arcs x s) w
   pub followed : (k u : ℕ) → k < length arcs → has s u ≡ true → 0 < residual L arcs x k u → NoneTo u w → (stop ≡ true → has s 1 ≡ true → depth_at s u + 1 < depth_at s 1) → Beside s u (end_at arcs k u)
   pub once : length w + outside (has s) 64 ≤ 64
   pub rising : Rising (depth_at s) w
-  pub near : All (λ e. Near s e.node) w
+  pub near : AllByRecursion (λ e. Near s e.node) w
 
 -- while the node n is expanded: of its arcs those before j were followed
 pub record Turn (L : ℕ) (arcs : List Arc) (x : List ℕ) (s : Search) (w : List Visit) (n j : ℕ) : Type 0 where
   pub tree : Tree L arcs x s w
   pub here : has s n ≡ true
-  pub waits : All (Waits L arcs x s) w
+  pub waits : AllByRecursion (Waits L arcs x s) w
   pub followed : (k u : ℕ) → k < length arcs → has s u ≡ true → 0 < residual L arcs x k u → NoneTo u w → (u ≡ n → k < j) → Beside s u (end_at arcs k u)
   pub once : length w + outside (has s) 64 < 64
   pub rising : Rising (depth_at s) w
-  pub later : All (λ e. depth_at s n ≤ depth_at s e.node) w
+  pub later : AllByRecursion (λ e. depth_at s n ≤ depth_at s e.node) w
   pub near : Near s n
 
 -- what a search found: so many residual arcs lead to a node as it is deep, to node 1 no fewer, and

@@ -1,5 +1,6 @@
 // A flow engine by shortest augmenting paths, and the set of nodes that the source reaches.
 #![tactic(auto)]
+
 mod engine;
 mod paths;
 mod search;

@@ -1,5 +1,6 @@
 // Plans a job file from standard input, and prints the outcome and each subtour of the plan.
 #![tactic(auto)]
+
 ghost use Rattle.std.specs.Prelude.{◌≤◌, length, IfOk};
 
 use anyhow::anyhow;

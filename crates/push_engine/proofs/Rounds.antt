@@ -1,5 +1,5 @@
 -- The moves of one round at a node v, which began with the preflow p₀.
-use Rattle.std.proofs.Common.{◌≡◌, ℕ, ◌+◌, ◌-◌, ◌<◌, ◌≤◌, min, true, ◌≢◌, List, length, get_or, refl, ap, ◌∙◌, arith, get_or-set_other, get_or-set_same, below_more}
+use Rattle.std.proofs.Common.{◌≡◌, ℕ, ◌+◌, ◌<◌, ◌≤◌, min, true, ◌≢◌, List, length, get_or, refl, ap, ◌∙◌, arith, get_or-set_other, get_or-set_same, below_more}
 use Rattle.std.proofs.lemmas.Bool.Decides.{nat_tests}
 use Rattle.flows.specs.declared.Arc.{Arc}
 use Rattle.flows.specs.Flows.{arc_at}

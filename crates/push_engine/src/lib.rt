@@ -1,5 +1,6 @@
 // A flow engine by preflows and node heights.
 #![tactic(auto)]
+
 mod discharge;
 mod engine;
 mod preflow;

@@ -1,6 +1,7 @@
 // The lines of a planner's answers, in memory that the caller lends. Each call answers how many of
 // the first bytes it wrote; a line for which there are too few is not begun.
 #![tactic(auto)]
+
 ghost use Rattle.std.specs.Prelude.{◌≡◌, ◌≤◌, ◌++◌, length, take};
 ghost use Rattle.report.specs.Lines.{numbers_text, outcome_text, outcome_refusal, refusal_text, subtour_text, subtour_refusal, Written, Reported};
 

@@ -1,5 +1,6 @@
 // Sheets of subtours, and the network that decides how few will do.
 #![tactic(auto)]
+
 ghost use Rattle.sheets.specs.Laws.{NoSheetOfAGap, SheetGivesFlow, FlowGivesSheet, NoneFewer, NoSheet, BoardKeepsRules};
 
 mod arc_list;

@@ -1,5 +1,6 @@
 // Examples worked by hand, and proved of the rules.
 #![tactic(auto)]
+
 ghost use Rattle.worked_boards.specs.Examples.{AllRight, examples};
 
 /// Each worked example is as the rules say.

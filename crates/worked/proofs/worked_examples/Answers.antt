@@ -1,7 +1,5 @@
-use Prim.Native.Nat.{ℕ, ◌+◌, ◌*◌, ◌≤◌, ◌<◌}
 use mathlib.Core.Path.{refl}
 use native.Mathlib.Omega.{arith}
-use Rattle.worked.specs.Examples.{Right, limit}
 use Rattle.worked.proofs.worked_examples.Goals as goal
 
 pub returns : goal.returns

@@ -1,5 +1,4 @@
-use Rattle.std.proofs.Common.{sym, ap, ◌∙◌, arith}
-use Rattle.jobformat.specs.Reading.{got}
+use Rattle.std.proofs.Common.{sym, arith}
 use Rattle.jobfile.proofs.Names.{graphics_bad, graphics_short, graphics_got}
 use Rattle.jobfile.proofs.parsing.graphics.Goals as goal
 use Rattle.jobfile.proofs.parsing.graphics.Goals.{else-loop-i-test, then-loop-i-test+then-i-n}

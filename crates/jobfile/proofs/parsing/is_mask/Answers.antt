@@ -1,4 +1,4 @@
-use Rattle.std.proofs.Common.{◌^◌, ◌<◌, ◌≤◌, sym, ◌∙◌, arith, pow_mono, lt-ltb, le-leb}
+use Rattle.std.proofs.Common.{◌^◌, ◌≤◌, sym, ◌∙◌, arith, pow_mono, lt-ltb, le-leb}
 use Rattle.jobfile.proofs.parsing.is_mask.Goals as goal
 
 pub returns-then-nozzles-ge8 : goal.returns-then-nozzles-ge8

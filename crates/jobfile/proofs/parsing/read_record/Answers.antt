@@ -1,6 +1,5 @@
-use Rattle.std.proofs.Common.{◌≡◌, ◌-◌, ◌≤◌, length, get_or, take, drop, sym, ap, ◌∙◌, rules}
+use Rattle.std.proofs.Common.{◌≤◌, length, ◌∙◌, rules}
 use Rattle.std.proofs.lemmas.Result.{err_from_is_err_and}
-use Rattle.jobformat.specs.Reading.{fields, entry}
 use Rattle.jobfile.proofs.Entries.{at_map, nameless, named, unnamed, whole, no_mask, no_limit, no_name}
 use Rattle.jobfile.proofs.parsing.read_record.Goals as goal
 

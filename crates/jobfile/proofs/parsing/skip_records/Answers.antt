@@ -1,4 +1,4 @@
-use Rattle.std.proofs.Common.{sym, ap, ◌∙◌, arith}
+use Rattle.std.proofs.Common.{sym, ◌∙◌, arith}
 use Rattle.std.proofs.lemmas.Result.{err_from_is_err_and}
 use Rattle.jobfile.proofs.Runs.{skip_one, skip_stop, skip_none}
 use Rattle.jobfile.proofs.parsing.skip_records.Goals as goal

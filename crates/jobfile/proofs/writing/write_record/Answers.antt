@@ -1,6 +1,6 @@
-use Rattle.std.proofs.Common.{◌≡◌, ◌≤◌, length, sym, ap, ◌∙◌, subst, arith}
+use Rattle.std.proofs.Common.{◌≤◌, length, ap, ◌∙◌, subst, arith}
 use Rattle.jobformat.specs.Format.{TwoBytes}
-use Rattle.jobfile.specs.Seen.{name_of, fields_of}
+use Rattle.jobfile.specs.Seen.{name_of}
 use Rattle.jobfile.specs.Writes.{over}
 use Rattle.jobfile.proofs.Writes.{wrote_then, bare_bytes, named_bytes}
 use Rattle.jobfile.proofs.writing.write_record.Goals as goal

@@ -1,4 +1,3 @@
-use Rattle.std.proofs.Common.{true, false}
 use Rattle.std.proofs.lemmas.Bool.{false≢true}
 use Rattle.path_engine.proofs.Ends.{innermost}
 use Rattle.path_engine.proofs.engine.reach.Goals as goal

@@ -1,6 +1,6 @@
-use Rattle.std.proofs.Common.{◌≡◌, length, sym, ap, ◌∙◌, arith}
-use Rattle.jobformat.specs.Format.{Contents, AllBytes, FileOf}
-use Rattle.jobformat.specs.Reading.{Parse, got, short, bad, file, verdict}
+use Rattle.std.proofs.Common.{◌≡◌, length, ap, ◌∙◌, arith}
+use Rattle.jobformat.specs.Format.{Contents}
+use Rattle.jobformat.specs.Reading.{Parse, short, bad, file, verdict}
 use Rattle.jobformat.proofs.Only.{all_bytes}
 use Rattle.jobformat.proofs.First.{bad_within, answers, reads_back}
 use Rattle.jobfile.proofs.reader.Reader.open.Goals as goal
