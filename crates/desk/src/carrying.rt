@@ -24,7 +24,7 @@ fn answer(res: Result<(), JobFault>) -> Answer
 
 // Plans with the engine at a place, if there is one.
 fn plan_with<E: Engine>(job: &mut Job, engines: &mut [E], place: usize) -> Answer
-    ensures { PlanTurn place (state_of job.old) (map count engines.old) result (state_of job.new) (map count engines.new) }
+    ensures { PlanTurn place (state_of job.old) (map E.count engines.old) result (state_of job.new) (map E.count engines.new) }
 {
     if place >= engines.len() {
         return Answer::Skipped;
@@ -65,7 +65,7 @@ fn carry_one<E: Engine>(
     rack: &mut [Slot],
     engines: &mut [E],
 ) -> Answer
-    ensures { Does (world (state_of job.old) rack.old (map count engines.old)) request result (world (state_of job.new) rack.new (map count engines.new)) }
+    ensures { Does (world (state_of job.old) rack.old (map E.count engines.old)) request result (world (state_of job.new) rack.new (map E.count engines.new)) }
 {
     match request {
         Request::EnterQuantity { kind, quantity } => answer(job.enter_quantity(kind, quantity)),
@@ -90,7 +90,7 @@ pub fn carry_out<E: Engine>(
     answers: &mut [Answer],
 ) -> usize
     ensures count { result ≡ min (length requests.now) (length answers.old) }
-    ensures carried { Carried (world (state_of job.old) rack.old (map count engines.old)) (take result requests.now) (take result answers.new) (world (state_of job.new) rack.new (map count engines.new)) }
+    ensures carried { Carried (world (state_of job.old) rack.old (map E.count engines.old)) (take result requests.now) (take result answers.new) (world (state_of job.new) rack.new (map E.count engines.new)) }
     ensures run { Recorded (state_of job.old) (take result answers.new) (state_of job.new) }
     ensures kept { Kept (state_of job.new) }
     ensures sound { Sound (book_of job.old) rack.old → Sound (book_of job.new) rack.new }

@@ -40,7 +40,7 @@ impl Job {
         trail: &mut [Step; 9],
     ) -> Result<Outcome, JobFault>
         ensures ends { Sought self.now flow.new trail.new result }
-        ensures counts { elim result [ Ok o ↦ count engine.new ≡ (count engine.old + runs_of o) % 2 ^ 32 | Err f ↦ engine.new ≡ engine.old ] }
+        ensures counts { elim result [ Ok o ↦ E.count engine.new ≡ (E.count engine.old + runs_of o) % 2 ^ 32 | Err f ↦ engine.new ≡ engine.old ] }
     {
         let board = self.board()?;
         let net = board.network();
@@ -54,7 +54,7 @@ impl Job {
     /// Plans the job with an engine, and keeps the outcome with its flow and its trail.
     pub fn plan<E: Engine>(&mut self, engine: &mut E) -> Result<Outcome, JobFault>
         ensures turn { Ended self.old result self.new }
-        ensures counts { elim result [ Ok o ↦ count engine.new ≡ (count engine.old + runs_of o) % 2 ^ 32 | Err f ↦ engine.new ≡ engine.old ] }
+        ensures counts { elim result [ Ok o ↦ E.count engine.new ≡ (E.count engine.old + runs_of o) % 2 ^ 32 | Err f ↦ engine.new ≡ engine.old ] }
         ensures kept { Kept (state_of self.new) }
     {
         let mut flow = self.flow;

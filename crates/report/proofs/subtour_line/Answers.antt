@@ -5,4 +5,4 @@ use Rattle.report.proofs.subtour_line.Goals as goal
 
 pub returns : goal.returns
 returns c =
-    row_line c.args.job.now c.args.subtour c.nozzle-count-count.result _ c.show-subtour.new.out _ c.numbers-of-numbers.result c.args.out.now c.put-line.result c.put-line.new.out c.nozzle-count-count.ensures.0 (search (rules, length-take-le)) c.show-subtour.auto.out c.in-ok-show-subtour.ensures.shown.0 c.numbers-of-numbers.ensures c.put-line.ensures
+    row_line c.args.job.now c.args.subtour c.nozzle_count-count.result _ c.show_subtour.new.out _ c.numbers_of-numbers.result c.args.out.now c.put_line.result c.put_line.new.out c.nozzle_count-count.ensures.0 (search (rules, length-take-le)) c.show_subtour.auto.out c.in_ok-show_subtour.ensures.shown.0 c.numbers_of-numbers.ensures c.put_line.ensures

@@ -7,22 +7,22 @@ use Rattle.desk.proofs.carrying.carry_one.Goals as goal
 pub returns-in-EnterQuantity : goal.returns-in-EnterQuantity
 returns-in-EnterQuantity g c =
     let q = EnterQuantity c.in-EnterQuantity.kind c.in-EnterQuantity.quantity in
-    does_at _ q _ _ _ c.in-EnterQuantity.is (done_does c.args.job.now c.enter-quantity.new.self _ c.enter-quantity.result _ q _ _ c.enter-quantity.ensures (kept_of c.enter-quantity.new.self) c.answer.ensures refl (λ x. refl) (λ x. refl))
+    does_at _ q _ _ _ c.in-EnterQuantity.is (done_does c.args.job.now c.enter_quantity.new.self _ c.enter_quantity.result _ q _ _ c.enter_quantity.ensures (kept_of c.enter_quantity.new.self) c.answer.ensures refl (λ x. refl) (λ x. refl))
 
 pub returns-in-EnterMask : goal.returns-in-EnterMask
 returns-in-EnterMask g c =
     let q = EnterMask c.in-EnterMask.kind c.in-EnterMask.mask c.in-EnterMask.limit in
-    does_at _ q _ _ _ c.in-EnterMask.is (done_does c.args.job.now c.enter-mask.new.self _ c.enter-mask.result _ q _ _ c.enter-mask.ensures (kept_of c.enter-mask.new.self) c.answer-in-EnterMask.ensures refl (λ x. refl) (λ x. refl))
+    does_at _ q _ _ _ c.in-EnterMask.is (done_does c.args.job.now c.enter_mask.new.self _ c.enter_mask.result _ q _ _ c.enter_mask.ensures (kept_of c.enter_mask.new.self) c.answer-in-EnterMask.ensures refl (λ x. refl) (λ x. refl))
 
 pub returns-in-TakeOut : goal.returns-in-TakeOut
 returns-in-TakeOut g c =
     let q = TakeOut c.in-TakeOut.nozzle c.in-TakeOut.slot in
-    does_at _ q _ _ _ c.in-TakeOut.is (slot_does q c.in-TakeOut.slot _ _ _ _ _ _ _ c.if-slot-rack.true (λ r. refl) (λ r. refl) c.take-out.ensures)
+    does_at _ q _ _ _ c.in-TakeOut.is (slot_does q c.in-TakeOut.slot _ _ _ _ _ _ _ c.if-slot-rack.true (λ r. refl) (λ r. refl) c.take_out.ensures)
 
 pub returns-in-GiveBack : goal.returns-in-GiveBack
 returns-in-GiveBack g c =
     let q = GiveBack c.in-GiveBack.slot in
-    does_at _ q _ _ _ c.in-GiveBack.is (slot_does q c.in-GiveBack.slot _ _ _ _ _ _ _ c.if-slot-rack-2.true (λ r. refl) (λ r. refl) c.give-back.ensures)
+    does_at _ q _ _ _ c.in-GiveBack.is (slot_does q c.in-GiveBack.slot _ _ _ _ _ _ _ c.if-slot-rack-2.true (λ r. refl) (λ r. refl) c.give_back.ensures)
 
 pub returns-in-Scrap : goal.returns-in-Scrap
 returns-in-Scrap g c =

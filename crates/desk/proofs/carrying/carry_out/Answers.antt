@@ -16,7 +16,7 @@ loop-i-preserved g c =
     let in-answers : c.loop-i.i < length c.loop-i.answers = omega arith in
     let in-requests : c.loop-i.i < length c.args.requests.now = omega arith in
     let past : c.loop-i.i < c.loop-i.i + 1 = omega arith in (
-      rw (take_more c.args.requests.now c.loop-i.i (EnterQuantity 0 0), take_more_set) (carried_more _ _ c.loop-i.invariant.0 c.carry-one.ensures),
+      rw (take_more c.args.requests.now c.loop-i.i (EnterQuantity 0 0), take_more_set) (carried_more _ _ c.loop-i.invariant.0 c.carry_one.ensures),
       rw (drop-set-lt, ← drop-drop, ← drop-drop) (ap (drop 1) c.loop-i.invariant.1),
     )
 

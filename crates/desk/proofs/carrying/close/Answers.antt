@@ -9,18 +9,18 @@ use Rattle.desk.proofs.Carries.{slot_does, carried_more}
 use Rattle.desk.proofs.Racks.{sound_does, one_free}
 use Rattle.desk.proofs.carrying.close.Goals as goal
 
-before : goal.After-give-back → World
+before : goal.After-give_back → World
 before c = world (state_of c.loop-slot.job) c.loop-slot.rack []
 
-after : goal.After-give-back → World
-after c = world (state_of c.give-back.new.job) (set c.loop-slot.rack c.loop-slot.slot-index c.give-back.new.self) []
+after : goal.After-give_back → World
+after c = world (state_of c.give_back.new.job) (set c.loop-slot.rack c.loop-slot.slot-index c.give_back.new.self) []
 
 -- the ticket of one slot more is given back
-back_does : (c : goal.After-give-back) → Does (before c) (GiveBack c.loop-slot.slot-index) c.give-back.result (after c)
+back_does : (c : goal.After-give_back) → Does (before c) (GiveBack c.loop-slot.slot-index) c.give_back.result (after c)
 unfolding before after
 back_does c =
     let there : c.loop-slot.slot-index < length c.loop-slot.rack = omega (arith, c.loop-slot.auto.rack) in
-    slot_does (GiveBack c.loop-slot.slot-index) c.loop-slot.slot-index _ [] _ _ _ _ _ there (λ r. refl) (λ r. refl) c.give-back.ensures
+    slot_does (GiveBack c.loop-slot.slot-index) c.loop-slot.slot-index _ [] _ _ _ _ _ there (λ r. refl) (λ r. refl) c.give_back.ensures
 
 pub loop-slot-init : goal.loop-slot-init
 loop-slot-init c = (([], stop), λ s. (s, λ j h. absurd (omega arith)))
@@ -31,8 +31,8 @@ loop-slot-preserved c =
     let d = back_does c in
     let there : c.loop-slot.slot-index < length c.loop-slot.rack = omega (arith, c.loop-slot.auto.rack) in
     let done = c.loop-slot.invariant.0 in (
-      (done.0 ++ (c.give-back.result ∷ []), rw (map-range_with_len_more GiveBack 0 c.loop-slot.slot-index c.loop-slot.slot-index (omega arith)) (carried_more _ _ done.1 d)),
-      λ s. let h = c.loop-slot.invariant.1 s in (sound_does (before c) (after c) (GiveBack c.loop-slot.slot-index) c.give-back.result d h.0, one_free (before c) (after c) c.loop-slot.slot-index c.give-back.result there d h.0 h.1),
+      (done.0 ++ (c.give_back.result ∷ []), rw (map-range_with_len_more GiveBack 0 c.loop-slot.slot-index c.loop-slot.slot-index (omega arith)) (carried_more _ _ done.1 d)),
+      λ s. let h = c.loop-slot.invariant.1 s in (sound_does (before c) (after c) (GiveBack c.loop-slot.slot-index) c.give_back.result d h.0, one_free (before c) (after c) c.loop-slot.slot-index c.give_back.result there d h.0 h.1),
     )
 
 pub returns : goal.returns

@@ -19,7 +19,7 @@ returns-in-Ok c =
     record {
       answered = record {
         allowed = more_room o n r _ c.args.places (simp length-take (omega (arith, c.min.ensures))) shown.allowed;
-        accepts = (ap row (front c.nozzle-count.result r c.show-subtour.new.out _ c.nozzle-count.ensures.0 (omega (arith, had_room o n r _ shown.allowed, c.show-subtour.auto.out))) ∙ shown.accepts.0, refl);
+        accepts = (ap row (front c.nozzle_count.result r c.show_subtour.new.out _ c.nozzle_count.ensures.0 (omega (arith, had_room o n r _ shown.allowed, c.show_subtour.auto.out))) ∙ shown.accepts.0, refl);
       };
       kept = c.in-Ok.ensures.kept;
     }

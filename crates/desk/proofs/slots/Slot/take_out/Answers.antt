@@ -3,4 +3,4 @@ use Rattle.job.proofs.Always.{kept_of}
 use Rattle.desk.proofs.slots.Slot.take_out.Goals as goal
 
 pub returns-in-Err : goal.returns-in-Err
-returns-in-Err c = let k = kept_of c.take-out.new.self in search rules
+returns-in-Err c = let k = kept_of c.take_out.new.self in search rules

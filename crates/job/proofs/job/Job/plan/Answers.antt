@@ -7,7 +7,7 @@ use Rattle.job.proofs.job.Job.plan.Goals as goal
 pub returns-in_err-outcome : goal.returns-in_err-outcome
 returns-in_err-outcome g c =
     let p = err_from_is_err_and c.from_residual.result c.from_residual.ensures.1 in
-    rw (p.1, p.2) (record { turn = (c.in-err-outcome.ensures.ends, refl); counts = c.in-err-outcome.ensures.counts; kept = kept_of c.args.self.now })
+    rw (p.1, p.2) (record { turn = (c.in_err-outcome.ensures.ends, refl); counts = c.in_err-outcome.ensures.counts; kept = kept_of c.args.self.now })
 
 pub invariant_of-self : goal.invariant_of-self
 invariant_of-self g c =
@@ -15,6 +15,15 @@ invariant_of-self g c =
     let b = book_of j in
     let flow = c.seek.new.flow in
     let trail = c.seek.new.trail in
-    let o = c.in-ok-outcome.outcome in
-    let k = c.in-ok-outcome.ensures.ends.2 in
-    (j.some_types, (j.few_types, (j.some_nozzles, (j.few_nozzles, (j.types_long, (j.nozzles_long, (planned_in b flow trail o k, (short_in b flow trail o k, tt))))))))
+    let o = c.in_ok-outcome.outcome in
+    let k = c.in_ok-outcome.ensures.ends.2 in
+    record {
+      some_types = j.some_types;
+      few_types = j.few_types;
+      some_nozzles = j.some_nozzles;
+      few_nozzles = j.few_nozzles;
+      types_long = j.types_long;
+      nozzles_long = j.nozzles_long;
+      planned = planned_in b flow trail o k;
+      short = short_in b flow trail o k;
+    }

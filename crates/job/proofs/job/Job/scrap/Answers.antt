@@ -18,8 +18,8 @@ use Rattle.job.proofs.job.Job.scrap.Goals as goal
 third : (x y z : Bool) → true ≡ (x && (y && z)) → z ≡ true
 third x y z e = grind (arith, nat_tests)
 
-held_out : (b : Book) (job n : ℕ) → true ≡ held_out b job n → is_out (state_at b n) ≡ true
-held_out b job n e = third (eqb job b.number) (within n (length b.nozzles)) (is_out (state_at b n)) e
+is_out_here : (b : Book) (job n : ℕ) → true ≡ held_out b job n → is_out (state_at b n) ≡ true
+is_out_here b job n e = third (eqb job b.number) (within n (length b.nozzles)) (is_out (state_at b n)) e
 
 -- the nozzles before and after
 module _ (j : Job) (job n : ℕ) (h : true ≡ held_out (book_of j) job n) where
@@ -27,7 +27,7 @@ module _ (j : Job) (job n : ℕ) (h : true ≡ held_out (book_of j) job n) where
   after = take j.nozzle_count (set j.nozzles (n - 1) Scrapped)
 
   alike : Alike (book_of j).nozzles after
-  alike = subst (Alike (book_of j).nozzles) (sym (take_of_set j.nozzle_count j.nozzles (n - 1) Scrapped)) (scrapped_alike (book_of j).nozzles (n - 1) (held_out (book_of j) job n h))
+  alike = subst (Alike (book_of j).nozzles) (sym (take_of_set j.nozzle_count j.nozzles (n - 1) Scrapped)) (scrapped_alike (book_of j).nozzles (n - 1) (is_out_here (book_of j) job n h))
 
   rows : (o : Outcome) → rows_by o (book_of j).types after j.flow ≡ rows_by o (book_of j).types (book_of j).nozzles j.flow
   rows Unplanned = refl
@@ -38,28 +38,17 @@ pub invariant_of-self : goal.invariant_of-self
 invariant_of-self c =
     let j = c.args.self.now in
     let h = c.if-not-holds.ensures in
-    let a = alike j c.args.ticket.job c.args.ticket.nozzle h in (
-      j.some_types,
-      (
-        j.few_types,
-        (
-          j.some_nozzles,
-          (
-            j.few_nozzles,
-            (
-              j.types_long,
-              (
-                rw length-set j.nozzles_long,
-                (
-                  (λ cost runs e. ∥∥₁_map (j.planned cost runs e) (planned_same (book_of j).types (book_of j).nozzles (after j c.args.ticket.job c.args.ticket.nozzle h) a j.flow (take runs j.trail) cost runs)),
-                  ((λ runs cut e. ∥∥₁_map (j.short runs cut e) (short_same (book_of j).types (book_of j).nozzles (after j c.args.ticket.job c.args.ticket.nozzle h) a (take runs j.trail) runs cut)), tt),
-                ),
-              ),
-            ),
-          ),
-        ),
-      ),
-    )
+    let a = alike j c.args.ticket.job c.args.ticket.nozzle h in
+    record {
+      some_types = j.some_types;
+      few_types = j.few_types;
+      some_nozzles = j.some_nozzles;
+      few_nozzles = j.few_nozzles;
+      types_long = j.types_long;
+      nozzles_long = rw length-set j.nozzles_long;
+      planned = λ cost runs e. ∥∥₁_map (j.planned cost runs e) (planned_same (book_of j).types (book_of j).nozzles (after j c.args.ticket.job c.args.ticket.nozzle h) a j.flow (take runs j.trail) cost runs);
+      short = λ runs cut e. ∥∥₁_map (j.short runs cut e) (short_same (book_of j).types (book_of j).nozzles (after j c.args.ticket.job c.args.ticket.nozzle h) a (take runs j.trail) runs cut);
+    }
 
 pub returns : goal.returns
 returns c =

@@ -15,10 +15,10 @@ loop-i-preserved c =
     let l = c.loop-i in
     let ns = c.args.numbers.now in
     let x = decimal (get_or ns (l.i - 1) 0) in
-    let new = c.put-number.ensures.text in
+    let new = c.put_number.ensures.text in
     elim c.if-i-numbers.branch [
       | then-i-numbers w ↦
-          (number_more ns (text_of l.line) (text_of w.put-byte.new.self) _ l.i (omega arith) (omega arith) l.invariant.0 w.put-byte.ensures.text (new ∙ ap (λ (t : Tail). x ++ text_of t) w.line-is), omega (arith, ap (λ (t : Tail). t.start) w.line-is))
+          (number_more ns (text_of l.line) (text_of w.put_byte.new.self) _ l.i (omega arith) (omega arith) l.invariant.0 w.put_byte.ensures.text (new ∙ ap (λ (t : Tail). x ++ text_of t) w.line-is), omega (arith, ap (λ (t : Tail). t.start) w.line-is))
       | else-i-numbers w ↦
           (number_last ns (text_of l.line) _ l.i (omega arith) (omega arith) l.invariant.0 (new ∙ ap (λ (t : Tail). x ++ text_of t) w.line-is), omega (arith, ap (λ (t : Tail). t.start) w.line-is))
     ]

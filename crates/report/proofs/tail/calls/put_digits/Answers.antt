@@ -6,8 +6,8 @@ use Rattle.report.proofs.tail.calls.put_digits.Goals as goal
 pub loop-rest-init : goal.loop-rest-init
 loop-rest-init c = (refl, omega arith, omega arith, omega (arith, length-decimal-le 20 c.args.number (omega arith) (omega arith) (omega arith)))
 
-pub overflow-sub-place : goal.overflow-sub-place
-overflow-sub-place c = omega (arith, decimal_nonempty c.loop-rest.rest (omega arith))
+pub overflow_sub-place : goal.overflow_sub-place
+overflow_sub-place c = omega (arith, decimal_nonempty c.loop-rest.rest (omega arith))
 
 pub loop-rest-preserved : goal.loop-rest-preserved
 loop-rest-preserved c =
@@ -17,8 +17,8 @@ loop-rest-preserved c =
     let some = decimal_nonempty l.rest small in
     (digit_more l.bytes _ l.rest l.place large small (omega arith) (omega arith) l.invariant.0, omega arith, omega arith, omega (arith, fewer_left l.rest large small))
 
-pub overflow-sub-place-2 : goal.overflow-sub-place-2
-overflow-sub-place-2 c = omega (arith, decimal_nonempty c.loop-rest.rest (omega arith))
+pub overflow_sub-place-2 : goal.overflow_sub-place-2
+overflow_sub-place-2 c = omega (arith, decimal_nonempty c.loop-rest.rest (omega arith))
 
 pub returns : goal.returns
 returns c =
