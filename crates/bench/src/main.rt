@@ -85,10 +85,10 @@ fn run(rt: &HostRuntime) -> anyhow::Result<()> {
     let mut args = env::args(rt)?;
     let _program = args.next();
     let (Some(plans), Some(name), None) = (args.next(), args.next(), args.next()) else {
-        return Err(USAGE.into());
+        return Err(anyhow!(USAGE));
     };
     let (Ok(plans), Some(mut engine)) = (plans.parse::<u32>(), engine_of(name.as_str())) else {
-        return Err(USAGE.into());
+        return Err(anyhow!(USAGE));
     };
     let mut bytes = Vec::new(rt.alloc());
     rt.stdin().take(ENOUGH).read_to_end(&mut bytes)?;

@@ -1,25 +1,24 @@
 -- Every request keeps a rack sound.
-use Rattle.std.proofs.Common.{◌≡◌, ℕ, zero, suc, ◌+◌, ◌-◌, ◌<◌, ◌≤◌, true, ◌≢◌, ◌⊎◌, List, [], ◌∷◌, length, get_or, set, Some, None, Option, sym, refl, ap, ◌∙◌, subst, subst₂, inl, inr, arith, length-set}
+use Rattle.std.proofs.Common.{◌≡◌, ℕ, zero, suc, ◌+◌, ◌-◌, ◌<◌, ◌≤◌, true, ◌≢◌, ◌⊎◌, List, [], ◌∷◌, length, get_or, set, Some, None, Option, sym, refl, ap, ◌∙◌, subst, inl, inr, arith, length-set}
 use Rattle.std.proofs.lemmas.List.{get_or-set_same, get_or-set_other, set-set, set-get_or}
 use Rattle.std.proofs.lemmas.Bool.{lt-ltb, cases_eq}
 use Rattle.std.proofs.lemmas.Bool.Decides.{nat_tests}
 use Rattle.sheets.specs.declared.NozzleState.{NozzleState}
 use Rattle.sheets.specs.declared.NozzleState.TheVariants.{InService, Out, Scrapped}
-use Rattle.sheets.specs.declared.TypeRecord.{TypeRecord}
 use Rattle.sheets.specs.Sheets.{serves}
 use Rattle.book.specs.declared.Outcome.{Outcome}
 use Rattle.book.specs.declared.Outcome.TheVariants.{None as Unplanned}
 use Rattle.book.specs.declared.faults.JobFault.{JobFault}
-use Rattle.book.specs.Books.{Book, state_at, is_out, with_type, with_quantity, with_mask, with_state, with_nozzles}
+use Rattle.book.specs.Books.{Book, state_at, is_out, with_state, with_nozzles}
 use Rattle.book.specs.Turns.{Turn, enter_quantity, enter_mask, take_out, give_back, scrap, exchange, plan, show_subtour, show_step, refusal}
-use Rattle.book.specs.Events.{State, Reply, refused, done, gave, ended, row, step, Accepts, Accepted, Answered}
+use Rattle.book.specs.Events.{State, Reply, refused, done, gave, ended, row, step, Accepted, Answered}
 use Rattle.job.specs.declared.job.Ticket.{Ticket}
 use Rattle.desk.specs.declared.Request.{Request}
 use Rattle.desk.specs.declared.Request.TheVariants.{EnterQuantity, EnterMask, TakeOut, GiveBack, Scrap, Exchange, Plan, ShowSubtour, ShowStep}
 use Rattle.desk.specs.declared.Answer.{Answer}
 use Rattle.desk.specs.declared.slots.Slot.{Slot}
 use Rattle.desk.specs.declared.slots.Slot.TheVariants.{Free, Held}
-use Rattle.desk.specs.Desks.{World, world, said, fill, spend, at, turn_of, slot_after, rack_after, Paired, Turned, Does, Carried, stop, next}
+use Rattle.desk.specs.Desks.{World, said, fill, spend, at, turn_of, slot_after, rack_after, Paired, Turned, Does, Carried, stop, next}
 use Rattle.desk.specs.Racks.{Named, Sound}
 
 free_held : (t : Ticket) → Free ≡ Held t → ⊥

@@ -1,7 +1,6 @@
 -- What a list of requests does to a job, to the caller's tickets and to the counts of the engines.
 use Rattle.std.specs.Prelude.{◌≡◌, ℕ, ◌+◌, ◌%◌, ◌^◌, cond, List, [], ◌∷◌, map, length, take, Some, None, Ok, Err, Option, Result, nat_lt, slice_index, slice_index_or, slice_set}
 use Rattle.std.specs.List.{range_with_len}
-use Rattle.book.specs.declared.Outcome.{Outcome}
 use Rattle.book.specs.declared.faults.JobFault.{JobFault}
 use Rattle.book.specs.Books.{runs_of}
 use Rattle.book.specs.Turns.{Turn, enter_quantity, enter_mask, take_out, give_back, scrap, exchange, plan, show_subtour, show_step}

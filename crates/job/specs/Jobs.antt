@@ -11,7 +11,7 @@ use Rattle.book.specs.declared.Outcome.TheVariants.{None as Unplanned, Planned, 
 use Rattle.book.specs.declared.faults.JobFault.{JobFault}
 use Rattle.book.specs.Books.{Book, orders_in, runs_of, with_outcome}
 use Rattle.book.specs.Turns.{Turn, exchange, plan, show_subtour, show_step, refusal}
-use Rattle.book.specs.Events.{State, Reply, done, gave, ended, row, step, Promise, IsEnd, Accepted}
+use Rattle.book.specs.Events.{State, done, gave, ended, row, step, Promise, IsEnd, Accepted}
 use Rattle.job.specs.declared.job.Job.{Job}
 use Rattle.job.specs.declared.job.Ticket.{Ticket}
 use Rattle.job.specs.declared.job.Returned.{Returned}

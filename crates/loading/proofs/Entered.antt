@@ -12,7 +12,7 @@ use Rattle.book.specs.Turns.{Turn, opening, enter_quantity, enter_mask}
 use Rattle.book.specs.Events.{State, done, fresh, Kept, Accepted, Happens, Event, Run, stop, next}
 use Rattle.job.specs.declared.job.Job.{Job}
 use Rattle.job.specs.Jobs.{state_of}
-use Rattle.loading.specs.Loaded.{type_of, loaded_book, quantity_turns, mask_turns, entry_turns, entries_turns, accepted, Loads, LoadsByTurns}
+use Rattle.loading.specs.Loaded.{type_of, loaded_book, quantity_turns, mask_turns, entry_turns, entries_turns, Loads, LoadsByTurns}
 
 -- a book with these types, and no outcome
 abbrev pub book_with : ℕ → List TypeRecord → ℕ → Book

@@ -1,4 +1,4 @@
-use Rattle.std.proofs.Common.{◌≡◌, sym, refl, ap, ◌∙◌, subst, rules}
+use Rattle.std.proofs.Common.{sym, refl, ap, ◌∙◌, subst, rules}
 use Rattle.jobfile.specs.Seen.{fields_of}
 use Rattle.book.specs.Events.{Run}
 use Rattle.job.specs.declared.job.Job.{Job}

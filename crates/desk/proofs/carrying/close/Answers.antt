@@ -1,10 +1,8 @@
-use Rattle.std.proofs.Common.{◌≡◌, ℕ, ◌<◌, List, [], ◌∷◌, ◌++◌, length, set, sym, refl, subst, arith}
+use Rattle.std.proofs.Common.{◌≡◌, ℕ, ◌<◌, [], ◌∷◌, ◌++◌, length, set, refl, subst, arith}
 use Rattle.std.proofs.lemmas.List.FromFn.{map-range_with_len_more}
-use Rattle.job.specs.Jobs.{book_of, state_of}
-use Rattle.desk.specs.declared.Request.{Request}
+use Rattle.job.specs.Jobs.{state_of}
 use Rattle.desk.specs.declared.Request.TheVariants.{GiveBack}
-use Rattle.desk.specs.declared.slots.Slot.{Slot}
-use Rattle.desk.specs.Desks.{World, world, Does, Carried, Closed, stop}
+use Rattle.desk.specs.Desks.{World, world, Does, Closed, stop}
 use Rattle.desk.proofs.Carries.{slot_does, carried_more}
 use Rattle.desk.proofs.Racks.{sound_does, one_free}
 use Rattle.desk.proofs.carrying.close.Goals as goal

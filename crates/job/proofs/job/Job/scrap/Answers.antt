@@ -1,9 +1,9 @@
 -- The plan stays, since the scrapped nozzle was out.
-use Rattle.std.proofs.Common.{◌≡◌, ℕ, ◌-◌, Bool, true, ◌&&◌, eqb, List, length, get_or, take, set, None, sym, refl, ap, ◌∙◌, subst, arith, length-set}
+use Rattle.std.proofs.Common.{◌≡◌, ℕ, ◌-◌, Bool, true, ◌&&◌, eqb, List, length, take, set, None, sym, refl, ap, subst, arith, length-set}
 use mathlib.Core.Logic.{∥∥₁_map}
 use Rattle.std.proofs.lemmas.Bool.Decides.{nat_tests}
 use Rattle.sheets.specs.declared.NozzleState.{NozzleState}
-use Rattle.sheets.specs.declared.NozzleState.TheVariants.{InService, Scrapped}
+use Rattle.sheets.specs.declared.NozzleState.TheVariants.{Scrapped}
 use Rattle.book.specs.declared.Outcome.{Outcome}
 use Rattle.book.specs.declared.Outcome.TheVariants.{None as Unplanned, Planned, Short}
 use Rattle.book.specs.declared.faults.JobFault.TheVariants.{NotOut}

@@ -1,16 +1,13 @@
-use Rattle.std.proofs.Common.{◌≡◌, ◌+◌, ◌%◌, ◌^◌, length, sym, refl, ap, ◌∙◌, arith}
+use Rattle.std.proofs.Common.{◌+◌, ◌%◌, ◌^◌, refl, ap, ◌∙◌, arith}
 use Rattle.std.proofs.lemmas.List.{length-take-le}
 use Rattle.limit_search.specs.declared.Found.{Found}
 use Rattle.limit_search.specs.declared.Found.TheVariants.{Planned, Short}
-use Rattle.limit_search.specs.Trails.{Ends, runs_of}
-use Rattle.network.specs.Nets.{arcs_of}
+use Rattle.limit_search.specs.Trails.{runs_of}
 use Rattle.sheets.specs.Made.{orders_of, nozzles_of}
-use Rattle.book.specs.Keeps.{nodes_in, total_in, arcs_in}
 use Rattle.book.proofs.Orders.{none_missing, entered_are}
 use Rattle.book.proofs.Ended.{ends_in, planned_kept, short_kept, counted_few}
 use Rattle.job.specs.Jobs.{book_of}
 use Rattle.job.proofs.job.Job.seek.Goals as goal
-use Rattle.job.proofs.job.Job.seek.Given as given
 
 pub returns-in_err-found : goal.returns-in_err-found
 returns-in_err-found g c =
