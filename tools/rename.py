@@ -19,9 +19,9 @@ MADE = re.compile(
     r"^(returns|invariant|decreases|loop|overflow|bounds|prove|unreachable|runs-init|runs-preserved)(-|$)"
     r"|-(requires|preserved|init|smaller)(-|$)|^(in|if|else|then-not|in_ok|in_err)-"
 )
-# two definitions joined
 # begins as a step of a proof does
 PLAIN = {"in-flow"}
+# two definitions joined
 JOINED = {"then-then", "then-cond", "length-copies", "length-join", "tally-join", "tally-copies"}
 
 

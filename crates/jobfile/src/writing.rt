@@ -119,8 +119,8 @@ pub(crate) fn size(entry: Record<'_>) -> usize
 }
 
 pub(crate) fn write_record(entry: Record<'_>, out: &mut [u8], at: usize)
-    requires value { name_fits (name_of entry) ≡ true }
-    requires in_bounds { at + length (encode (entry_of entry)) ≤ length out.old }
+    requires named { name_fits (name_of entry) ≡ true }
+    requires room { at + length (encode (entry_of entry)) ≤ length out.old }
     ensures out { out.new ≡ over out.old at (encode (entry_of entry.entry)) }
     ensures small { TwoBytes (entry_of entry.entry).quantity × TwoBytes (entry_of entry.entry).limit }
 {
