@@ -1,10 +1,16 @@
--- Sums over the arcs where one number of the list changes.
-use Rattle.std.proofs.Common.{◌≡◌, ℕ, ◌+◌, ◌<◌, Bool, List, length, get_or, set, inl, inr, arith, get_or-set_other, get_or-set_same}
+-- Lists of what flows on each arc: of zeros, and where one number changes.
+use Rattle.std.proofs.Common.{◌≡◌, ℕ, zero, suc, ◌+◌, ◌<◌, Bool, List, length, get_or, set, replicate, refl, inl, inr, arith, get_or-set_other, get_or-set_same}
 use Rattle.std.proofs.lemmas.Bool.{cases_eq}
 use Rattle.flows.specs.declared.Arc.{Arc}
 use Rattle.flows.specs.Sums.{only}
 use Rattle.flows.specs.Flows.{sum_flow, arc_at, EachArc}
 use Rattle.flows.proofs.Sums.{sum_change}
+
+-- a list of zeros holds 0 everywhere, and past its end too
+pub zeros : (n k : ℕ) → ◌≡◌ {A = ℕ} (get_or (replicate n 0) k 0) 0
+zeros zero k = refl
+zeros (suc n) zero = refl
+zeros (suc n) (suc k) = zeros n k
 
 only_sum : (t : Bool) (a b c : ℕ) → a ≡ b + c → only t a ≡ only t b + only t c
 only_sum t a b c e = grind arith

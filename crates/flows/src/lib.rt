@@ -2,7 +2,7 @@
 // specs/ say what a flow, a side and a cut are; each law is the contract of a function.
 #![tactic(auto)]
 
-ghost use Rattle.std.specs.Prelude.{◌≡◌};
+ghost use Rattle.std.specs.Prelude.{◌≡◌, true};
 ghost use Rattle.flows.specs.Flows.{capacity_under};
 ghost use Rattle.flows.specs.Laws.{LinearCapacity, Conservation, WeakDuality, TightCut, NoLimit, NextLimit, FewerCounted};
 
@@ -35,21 +35,24 @@ impl Arc {
 
 /// A side's capacity is that of its uncounted arcs, and the limit for each counted one.
 pub fn capacity_is_linear() -> bool
-    ensures { LinearCapacity }
+    ensures law { LinearCapacity }
+    ensures answer { result ≡ true }
 {
     true
 }
 
 /// A flow's size, and what enters a side, leave the side together.
 pub fn flow_is_conserved() -> bool
-    ensures { Conservation }
+    ensures law { Conservation }
+    ensures answer { result ≡ true }
 {
     true
 }
 
 /// No flow is larger than the capacity of a side.
 pub fn duality_is_weak() -> bool
-    ensures { WeakDuality }
+    ensures law { WeakDuality }
+    ensures answer { result ≡ true }
 {
     true
 }
@@ -57,28 +60,32 @@ pub fn duality_is_weak() -> bool
 /// A flow is as large as a side's capacity just where it fills each arc out of the side and leaves
 /// each arc into it empty.
 pub fn tight_cut_is_optimal() -> bool
-    ensures { TightCut }
+    ensures law { TightCut }
+    ensures answer { result ≡ true }
 {
     true
 }
 
 /// A cut with no counted arc and too little capacity rules out every limit.
 pub fn uncounted_cut_rules_out() -> bool
-    ensures { NoLimit }
+    ensures law { NoLimit }
+    ensures answer { result ≡ true }
 {
     true
 }
 
 /// The next limit is above the last, at most the wanted size, and no smaller one will do.
 pub fn next_limit_is_least() -> bool
-    ensures { NextLimit }
+    ensures law { NextLimit }
+    ensures answer { result ≡ true }
 {
     true
 }
 
 /// The next cut has fewer counted arcs.
 pub fn counted_arcs_fall() -> bool
-    ensures { FewerCounted }
+    ensures law { FewerCounted }
+    ensures answer { result ≡ true }
 {
     true
 }

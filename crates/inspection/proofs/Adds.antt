@@ -13,10 +13,3 @@ records_more t u goal n e es₀ es is p h = (rw p (append_assoc t (record_text n
 -- the header, and all records behind it
 pub records_all : (t u v head all : List ℕ) (n : ℕ) (es : List Entry) → u ≡ t ++ head → v ++ records_text n es ≡ u ++ all → es ≡ [] → v ≡ t ++ (head ++ all)
 records_all t u v head all n es p q none = sym (append-nil v) ∙ ap (λ l. v ++ records_text n l) (sym none) ∙ q ∙ ap (λ l. l ++ all) p ∙ append_assoc t head all
-
--- three texts into an empty one
-pub report_all : (t u v w head all copy : List ℕ) → t ≡ [] → u ≡ t ++ (head ++ all) → v ≡ u ++ copy → w ≡ v → w ≡ head ++ (all ++ copy)
-report_all t u v w head all copy none p q same = same ∙ q ∙ ap (λ l. l ++ copy) (p ∙ ap (λ l. l ++ (head ++ all)) none) ∙ append_assoc head all copy
-
-pub report_one : (t u w lines : List ℕ) → t ≡ [] → u ≡ t ++ lines → w ≡ u → w ≡ lines
-report_one t u w lines none p same = same ∙ p ∙ ap (λ l. l ++ lines) none

@@ -5,7 +5,7 @@ ghost use Rattle.std.specs.Prelude.{◌≡◌, ◌≤◌, true, ◌++◌, length
 ghost use Rattle.jobformat.specs.Format.{Contents};
 ghost use Rattle.jobformat.specs.Reading.{reading};
 ghost use Rattle.jobfile.specs.Opened.{held};
-ghost use Rattle.jobfile.specs.Seen.{entry_of, fields_of, name_of};
+ghost use Rattle.jobfile.specs.Seen.{entry_of, name_of};
 ghost use Rattle.inspection.specs.Words.{quantity_text, limit_text, members, mask_text, name_text, fields_text, header_text, record_text, records_text, copy_text, refusal_text, fault_text, report_text};
 
 use jobfile::{Fields, FileFault, Reader, Record, copy};
@@ -81,15 +81,6 @@ fn add_name(record: Record<'_>, text: &mut Vec<u8>) -> Result<(), AllocError>
     Ok(())
 }
 
-fn fields_of(record: Record<'_>) -> Fields
-    ensures { result ≡ fields_of «record».entry }
-{
-    match record {
-        Record::Named { fields, .. } => fields,
-        Record::Bare { fields } => fields,
-    }
-}
-
 /// Adds the line of the record of a type.
 fn add_record(
     heap: Global,
@@ -100,7 +91,7 @@ fn add_record(
     ensures { OnOk result (text.new.items ≡ text.old.items ++ record_text number (entry_of «record».entry)) }
 {
     let start = format!(in heap; "type {number}")?;
-    let rest = fields_text(heap, fields_of(record))?;
+    let rest = fields_text(heap, record.fields())?;
     add(start.as_bytes(), text)?;
     add_name(record, text)?;
     add(rest.as_bytes(), text)?;

@@ -25,10 +25,6 @@ named m b rest n h e = rw (ne_eqb (bit_and m 8) 0 h, ← e)
 pub unnamed : (m : ℕ) (b : List ℕ) (s : Stop) → (bit_and m 8 ≡ 0 → ⊥) → stopped s ≡ name b → stopped s ≡ name_if (has m 8) b
 unnamed m b s h e = rw (ne_eqb (bit_and m 8) 0 h, ← e) (then_stopped s _)
 
--- the fields one after another, from b₀ on
-pub whole : (r m : ℕ) (b₀ b₁ b₂ b₃ b₄ : List ℕ) (q k l : Option ℕ) (n : Option (List ℕ)) → got q b₁ ≡ number_if (has m 1) b₀ → got k b₂ ≡ mask_if (has m 2) r b₁ → got l b₃ ≡ number_if (has m 4) b₂ → got n b₄ ≡ name_if (has m 8) b₃ → got (record { quantity = q; mask = k; limit = l; name = n }) b₄ ≡ fields r m b₀
-whole r m b₀ b₁ b₂ b₃ b₄ q k l n e₀ e₁ e₂ e₃ = rw (← e₀, ← e₁, ← e₂, ← e₃)
-
 pub no_mask : (r m : ℕ) (b₀ b₁ : List ℕ) (q : Option ℕ) (e : Stop) → got q b₁ ≡ number_if (has m 1) b₀ → stopped e ≡ mask_if (has m 2) r b₁ → stopped e ≡ fields r m b₀
 no_mask r m b₀ b₁ q e e₀ e₁ = rw (← e₀, ← e₁) (then_stopped e _)
 

@@ -1,11 +1,11 @@
 // Writing the bytes of a record into lent memory.
 ghost use Rattle.std.specs.Prelude.{◌≡◌, ◌+◌, ◌≤◌, true, length};
 ghost use Rattle.jobformat.specs.Format.{number_bytes, mask_bytes, map_of, encode, all_graphic, name_fits, fits, TwoBytes};
-ghost use Rattle.jobfile.specs.Seen.{entry_of, fields_of, name_of};
+ghost use Rattle.jobfile.specs.Seen.{entry_of, name_of};
 ghost use Rattle.jobfile.specs.Writes.{over, Wrote};
 
+use super::Record;
 use super::parsing::{LIMIT, MASK, NAME, QUANTITY, is_graphic, is_mask};
-use super::{Fields, Record};
 
 pub(crate) fn all_graphic(name: &[u8]) -> bool
     ensures { result ≡ all_graphic name.now }
@@ -18,21 +18,11 @@ pub(crate) fn all_graphic(name: &[u8]) -> bool
     true
 }
 
-/// The fields beside the name.
-pub(crate) fn fields(entry: Record<'_>) -> Fields
-    ensures { result ≡ fields_of entry.entry }
-{
-    match entry {
-        Record::Named { fields, .. } => fields,
-        Record::Bare { fields } => fields,
-    }
-}
-
 /// Whether a file with so many nozzles can hold the record.
 pub(crate) fn is_record(entry: Record<'_>, nozzles: u8) -> bool
     ensures { result ≡ fits nozzles (entry_of entry.entry) }
 {
-    let fields = fields(entry);
+    let fields = entry.fields();
     let masked = match fields.mask {
         Some(mask) => is_mask(mask, nozzles),
         None => fields.limit.is_none(),
@@ -78,7 +68,7 @@ pub(crate) fn write_mask(mask: Option<u8>, out: &mut [u8], at: usize) -> usize
 pub(crate) fn map_byte(entry: Record<'_>) -> u8
     ensures { result ≡ map_of (entry_of entry.entry) }
 {
-    let fields = fields(entry);
+    let fields = entry.fields();
     let mut map = 0;
     if fields.quantity.is_some() {
         map += QUANTITY;
@@ -101,7 +91,7 @@ pub(crate) fn size(entry: Record<'_>) -> usize
     ensures is { result ≡ length (encode (entry_of entry.entry)) }
     ensures small { result ≤ 27 }
 {
-    let fields = fields(entry);
+    let fields = entry.fields();
     let mut size = 1;
     if fields.quantity.is_some() {
         size += 2;
@@ -124,7 +114,7 @@ pub(crate) fn write_record(entry: Record<'_>, out: &mut [u8], at: usize)
     ensures out { out.new ≡ over out.old at (encode (entry_of entry.entry)) }
     ensures small { TwoBytes (entry_of entry.entry).quantity × TwoBytes (entry_of entry.entry).limit }
 {
-    let fields = fields(entry);
+    let fields = entry.fields();
     let at = write(&[map_byte(entry)], out, at);
     let at = write_number(fields.quantity, out, at);
     let at = write_mask(fields.mask, out, at);

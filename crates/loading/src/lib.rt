@@ -4,7 +4,7 @@
 ghost use Rattle.std.specs.Prelude.{◌≡◌, true, length, Ok};
 ghost use Rattle.jobformat.specs.Format.{Answers, Fine};
 ghost use Rattle.jobformat.specs.Reading.{reading};
-ghost use Rattle.jobfile.specs.Seen.{entry_of, fields_of};
+ghost use Rattle.jobfile.specs.Seen.{entry_of};
 ghost use Rattle.book.specs.Books.{within};
 ghost use Rattle.book.specs.Events.{Run};
 ghost use Rattle.job.specs.Jobs.{book_of, state_of};
@@ -12,17 +12,7 @@ ghost use Rattle.loading.specs.Loaded.{entry_turns, Loads, LoadsByTurns};
 
 use book::JobFault;
 use job::Job;
-use jobfile::{Fields, Reader, Record};
-
-// What a record holds beside its name.
-fn fields_of(record: Record<'_>) -> Fields
-    ensures { result ≡ fields_of «record».entry }
-{
-    match record {
-        Record::Named { fields, .. } => fields,
-        Record::Bare { fields } => fields,
-    }
-}
+use jobfile::{Reader, Record};
 
 // A limit, if there is one, as a turn takes it.
 fn wide(limit: Option<u16>) -> Option<u32>
@@ -41,7 +31,7 @@ fn enter(job: &mut Job, kind: u8, record: Record<'_>) -> Result<(), JobFault>
     ensures done { result ≡ Ok tt }
     ensures turns { Run (state_of job.old) (entry_turns kind (entry_of «record».entry)) (state_of job.new) }
 {
-    let fields = fields_of(record);
+    let fields = record.fields();
     if let Some(quantity) = fields.quantity {
         job.enter_quantity(kind, quantity as u32)?;
     }

@@ -12,7 +12,7 @@ use Rattle.path_engine.specs.Residual.{Closed, Innermost}
 use Rattle.path_engine.specs.Searches.{has, depth_at, Searched, Carries}
 use Rattle.path_engine.proofs.Arcs.{end_in}
 use Rattle.path_engine.proofs.Closed.{along}
-use Rattle.path_engine.proofs.Searches.{zeros}
+use Rattle.flows.proofs.Places.{zeros}
 
 -- nothing flows yet
 pub idle : (L : ℕ) (arcs : List Arc) → Carries L arcs (replicate 256 0) × (size arcs (replicate 256 0) ≡ 0)

@@ -1,5 +1,5 @@
 -- What each step of a search leaves.
-use Rattle.std.proofs.Common.{◌≡◌, ℕ, zero, suc, ◌+◌, ◌<◌, ◌≤◌, min, Bool, true, false, ◌≢◌, ◌⊎◌, List, [], ◌∷◌, ◌++◌, length, get_or, replicate, sym, refl, ap, ◌∙◌, subst, inl, inr, arith, length-set, get_or-set_other, get_or-set_same}
+use Rattle.std.proofs.Common.{◌≡◌, ℕ, zero, suc, ◌+◌, ◌<◌, ◌≤◌, min, Bool, true, false, ◌≢◌, ◌⊎◌, List, [], ◌∷◌, ◌++◌, length, get_or, sym, refl, ap, ◌∙◌, subst, inl, inr, arith, length-set, get_or-set_other, get_or-set_same}
 use Rattle.std.specs.List.{AllByRecursion}
 use Rattle.std.proofs.lemmas.List.{length_push}
 use Rattle.std.proofs.ByRecursion.{All-push, All-weaker}
@@ -13,12 +13,8 @@ use Rattle.path_engine.specs.declared.search.Search.{Search}
 use Rattle.path_engine.specs.Residual.{end_at, residual, Route}
 use Rattle.path_engine.specs.Searches.{OfNetwork, has, depth_at, room_at, TaskOf, outside, effort, LedTo, Tree, Beside, Waits, Rising, Met, Turn, Searched, begun, discovered, noted}
 use Rattle.path_engine.proofs.Sides.{alone, outside_alone, inserted_cases, inserted_new, inserted_kept, outside_less}
+use Rattle.flows.proofs.Places.{zeros}
 use Rattle.path_engine.proofs.Arcs.{end_few, back_again}
-
-pub zeros : (n k : ℕ) → ◌≡◌ {A = ℕ} (get_or (replicate n 0) k 0) 0
-zeros zero k = refl
-zeros (suc n) zero = refl
-zeros (suc n) (suc k) = zeros n k
 
 -- lists of visits
 all_both : {X : Type 0} (P Q : X → Type 0) {S : X → Type 0} → ((e : X) → P e → Q e → S e) → (w : List X) → AllByRecursion P w → AllByRecursion Q w → AllByRecursion S w

@@ -1,11 +1,12 @@
 -- How a run begins and ends.
-use Rattle.std.proofs.Common.{◌≡◌, ℕ, zero, suc, ◌+◌, ◌*◌, ◌<◌, ◌≤◌, Bool, true, false, eqb, ltb, ◌≢◌, List, length, get_or, set, replicate, sym, refl, ap, ◌∙◌, subst, inl, inr, arith, length-set, get_or-set_other, get_or-set_same}
+use Rattle.std.proofs.Common.{◌≡◌, ℕ, ◌+◌, ◌*◌, ◌<◌, ◌≤◌, Bool, true, false, eqb, ltb, ◌≢◌, List, length, get_or, set, replicate, sym, refl, ap, ◌∙◌, subst, inl, inr, arith, length-set, get_or-set_other, get_or-set_same}
 use Rattle.std.proofs.lemmas.List.{get_or-take, length-take}
-use Rattle.std.proofs.lemmas.Bool.{cases_eq, cases_lt, lt-ltb, ltb-true}
+use Rattle.std.proofs.lemmas.Bool.{cases_eq, cases_lt, false_from_ne_true, lt-ltb, ltb-true}
 use Rattle.std.proofs.lemmas.Bool.Decides.{nat_tests}
 use Rattle.flows.specs.declared.Arc.{Arc}
 use Rattle.flows.specs.Sums.{only}
 use Rattle.flows.specs.Flows.{no_arc, arc_at, sum_flow, inside, size, IsFlow}
+use Rattle.flows.proofs.Places.{zeros}
 use Rattle.flows.proofs.Sums.{sum_none}
 use Rattle.network.specs.declared.amounts.Amount.{Amount}
 use Rattle.network.specs.declared.nets.Network.{Network}
@@ -21,11 +22,6 @@ use Rattle.push_engine.specs.Moves.{Settled}
 use Rattle.push_engine.proofs.Sums.{weigh_set}
 use Rattle.push_engine.proofs.Gaps.{gap}
 use Rattle.push_engine.proofs.Cuts.{above_gap, nothing_high}
-
-zeros : (n k : ℕ) → ◌≡◌ {A = ℕ} (get_or (replicate n 0) k 0) 0
-zeros zero k = refl
-zeros (suc n) zero = refl
-zeros (suc n) (suc k) = zeros n k
 
 no_supply : (W v : ℕ) → v ≢ 0 → supply W v ≡ 0
 no_supply W v ne = grind (arith, nat_tests)
@@ -118,10 +114,6 @@ still arcs p i v h two v-in =
       | inr none ↦ omega arith
     ]
 
-is_false : (b : Bool) → (b ≡ true → ⊥) → b ≡ false
-is_false true h = absurd (h refl)
-is_false false h = refl
-
 module _ (net : Network) (limit wanted : Amount) (p : Preflow) (s : Settled (arcs_of net) (task_of net limit wanted) p) where
   abbrev t : Task
   t = task_of net limit wanted
@@ -173,4 +165,4 @@ module _ (net : Network) (limit wanted : Amount) (p : Preflow) (s : Settled (arc
         omega (arith, ltb-true g.0 (get_or p.heights 1 0) z, labels.sink)
 
     pub short : FallsShort net.nodes limit.value wanted.value r arcs p.flow
-    short = falls_short net limit.value wanted.value r p.flow is_flow (omega (arith, sized_by)) i (is_false (inside r 1) no_sink)
+    short = falls_short net limit.value wanted.value r p.flow is_flow (omega (arith, sized_by)) i (false_from_ne_true (inside r 1) no_sink)

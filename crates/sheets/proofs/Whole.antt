@@ -1,7 +1,8 @@
 -- A sheet of complete orders, read by their figures.
-use Rattle.std.proofs.Common.{◌≡◌, ℕ, suc, ◌<◌, Bool, true, false, ◌&&◌, List, [], map, length, get_or, Some, sym, refl, ap, ◌∙◌, arith}
+use Rattle.std.proofs.Common.{◌≡◌, ℕ, suc, ◌<◌, true, List, [], map, length, get_or, Some, sym, ap, ◌∙◌, arith}
 use lib.ListN.{length-map}
 use Rattle.std.proofs.lemmas.List.{get_or-map}
+use Rattle.std.proofs.lemmas.Bool.{and_parts}
 use Rattle.flows.specs.Sums.{sum_to}
 use Rattle.sheets.specs.declared.NozzleState.{NozzleState}
 use Rattle.sheets.specs.declared.TypeRecord.{TypeRecord}
@@ -19,11 +20,6 @@ pub record IsWhole (orders : List Order) (nozzles : List NozzleState) (rows : Li
   pub allowed : (i j t : ℕ) → i < length rows → j < length nozzles → entry rows i j ≡ suc t → (t < length orders) × (may orders nozzles t j ≡ true)
   pub whole : (t : ℕ) → t < length orders → sum_to (length nozzles) (taken rows t) ≡ quantity_of orders t
   pub limited : (t j : ℕ) → t < length orders → j < length nozzles → Within (order_at orders t).limit (taken rows t j)
-
--- both parts of a test that holds
-both : (x y : Bool) → (x && y) ≡ true → (x ≡ true) × (y ≡ true)
-both true y e = (refl, e)
-both false y e = (e, cc)
 
 some_is : (m n : ℕ) → Some m ≡ Some n → m ≡ n
 some_is m n e = cc
@@ -54,8 +50,8 @@ module _ (orders : List Order) where
         record {
           wide = s.wide;
           known = λ i j t h l e. omega (arith, (s.allowed i j t h l e).0, as_many);
-          serving = λ i j t h l e. (both _ _ (s.allowed i j t h l e).1).0;
-          member = λ i j t h l e. rw (at t (s.allowed i j t h l e).0) (both (in_service nozzles j) _ (s.allowed i j t h l e).1).1;
+          serving = λ i j t h l e. (and_parts _ _ (s.allowed i j t h l e).1).0;
+          member = λ i j t h l e. rw (at t (s.allowed i j t h l e).0) (and_parts (in_service nozzles j) _ (s.allowed i j t h l e).1).1;
           whole = λ t h. let k : t < length orders = omega (arith, as_many) in rw (at t k) (ap Some (sym (s.whole t k)));
           limited = λ t j h l. let k : t < length orders = omega (arith, as_many) in rw (at t k) (s.limited t j k l);
         }

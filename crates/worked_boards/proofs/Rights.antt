@@ -1,7 +1,6 @@
 -- The test of a table of examples. Where it passes, each example is right.
-use Rattle.std.proofs.Common.{◌≡◌, ℕ, suc, ◌+◌, ◌-◌, ◌*◌, ◌≤◌, true, false, cond, List, [], ◌∷◌, length, Some, refl, ap, inl, inr, mul-le-mul_left, arith}
+use Rattle.std.proofs.Common.{◌≡◌, ℕ, suc, ◌+◌, ◌-◌, ◌*◌, ◌≤◌, true, false, cond, List, [], ◌∷◌, length, Some, refl, ap, inl, inr, arith}
 use Rattle.std.proofs.lemmas.Bool.{both_ways, cases_Bool}
-use Rattle.flows.specs.Sums.{limit_step}
 use Rattle.flows.specs.Flows.{inside, fixed_across, counted_across}
 use Rattle.network.specs.declared.sides.Cut.{Cut}
 use Rattle.limit_search.specs.declared.Step.{Step}
@@ -14,11 +13,11 @@ use Rattle.book.specs.Turns.{missing}
 use Rattle.book.specs.Faults.{number_of, layer_of, place_of}
 use Rattle.book.specs.Keeps.{PlannedKept, ShortKept, nodes_in, arcs_in, total_in, nozzles_across}
 use Rattle.worked_boards.specs.Boards.{Board}
-use Rattle.worked_boards.specs.Examples.{Example, limit, planned, short, gap, takes, Right, AllRight, load}
-use Rattle.worked_boards.proofs.Tests.{Test, yes, equal, at_most, less, also, each, if_less, passes, Says, sound}
+use Rattle.worked_boards.specs.Examples.{Example, planned, short, gap, takes, Right, AllRight, load}
+use Rattle.worked_boards.proofs.Tests.{Test, yes, equal, at_most, also, each, passes, Says, sound}
 use Rattle.worked_boards.proofs.Files.{read_test, is_read}
-use Rattle.worked_boards.proofs.Sheets.{sheetTest, is_sheet}
-use Rattle.worked_boards.proofs.Trails.{shortTest, is_short, trailTest, trail_kept, fewest, no_sheet_past}
+use Rattle.worked_boards.proofs.Sheets.{sheet_test, is_sheet}
+use Rattle.worked_boards.proofs.Trails.{short_test, is_short, trail_test, trail_kept, fewest, no_sheet_past}
 use Rattle.worked_boards.proofs.Loads.{load_most, load_least}
 
 -- nothing is missing
@@ -28,9 +27,9 @@ complete_test b = each (length b.types) (λ t. yes (is_entered (type_at b.types 
 abbrev planned_test : Board → ℕ → ℕ → List (List ℕ) → List Step → Test
 planned_test b cost runs rows trail =
     also (complete_test b)
-    (also (sheetTest b.types b.nozzles rows)
+    (also (sheet_test b.types b.nozzles rows)
     (also (equal (length rows) cost)
-    (also (trailTest b.types b.nozzles trail runs)
+    (also (trail_test b.types b.nozzles trail runs)
     (also (equal (step_at trail (runs - 1)).limit cost)
     (also (equal (step_at trail (runs - 1)).size (total_in b.types))
     (equal (step_at trail (runs - 1)).side.bits 0))))))
@@ -52,8 +51,8 @@ is_planned b cost runs rows trail s =
 abbrev shortage_test : Board → ℕ → Cut → List Step → Test
 shortage_test b runs last trail =
     also (complete_test b)
-    (also (trailTest b.types b.nozzles trail runs)
-    (also (shortTest (nodes_in b.types b.nozzles) (total_in b.types) (arcs_in b.types b.nozzles) (step_at trail (runs - 1)))
+    (also (trail_test b.types b.nozzles trail runs)
+    (also (short_test (nodes_in b.types b.nozzles) (total_in b.types) (arcs_in b.types b.nozzles) (step_at trail (runs - 1)))
     (also (equal (counted_across (side_of (step_at trail (runs - 1))) (arcs_in b.types b.nozzles)) 0)
     (also (equal (step_at trail (runs - 1)).side.bits last.side.bits)
     (also (equal (nozzles_across b.types b.nozzles (inside last.side.bits)) 0)
@@ -103,7 +102,6 @@ is_gap k n (x ∷ xs) s =
 
 -- the test of an example
 abbrev test_of : Example → Test
-test_of (limit W P K next) = also (equal (limit_step W P K) next) (also (at_most W (P + K * next)) (if_less 0 next (less (P + K * (next - 1)) W)))
 test_of (planned b cost runs rows trail) = also (read_test b) (planned_test b cost runs rows trail)
 test_of (short b runs last trail) = also (read_test b) (shortage_test b runs last trail)
 test_of (gap b kind number layer place) =
@@ -111,7 +109,6 @@ test_of (gap b kind number layer place) =
 test_of (takes b subtours nozzle least most) = also (read_test b) (takes_test b subtours nozzle least most)
 
 right : (e : Example) → Says (test_of e) → Right e
-right (limit W P K next) s = (s.0, s.1.0, λ other h. let l : other ≤ next - 1 = omega arith in omega (arith, s.1.1 (omega arith), mul-le-mul_left K l))
 right (planned b cost runs rows trail) s = (is_read b s.0, is_planned b cost runs rows trail s.1)
 right (short b runs last trail) s = (is_read b s.0, is_shortage b runs last trail s.1)
 right (gap b kind number layer place) s = (is_read b s.0, λ job. is_gap kind 1 b.types s.1.0, s.1.1.0, s.1.1.1.0, s.1.1.1.1)

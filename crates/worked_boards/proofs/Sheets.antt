@@ -32,13 +32,13 @@ module _ (types : List TypeRecord) (nozzles : List NozzleState) where
   allowed j (suc t) = also (less t (length types)) (also (yes (in_service nozzles j)) (yes (is_member (type_at types t).mask j)))
 
   module _ (rows : List (List ℕ)) where
-    abbrev pub sheetTest : Test
-    sheetTest =
+    abbrev pub sheet_test : Test
+    sheet_test =
         also
         (each (length rows) (λ i. also (equal (length (get_or rows i [])) (length nozzles)) (each (length nozzles) (λ j. allowed j (entry rows i j)))))
         (each (length types) (λ t. also (just (type_at types t).quantity (sum_to (length nozzles) (taken rows t))) (each (length nozzles) (λ j. keeps (type_at types t).limit (taken rows t j)))))
 
-    pub is_sheet : Says sheetTest → IsSheet types nozzles rows
+    pub is_sheet : Says sheet_test → IsSheet types nozzles rows
     is_sheet s =
         let may : (i j t : ℕ) → i < length rows → j < length nozzles → entry rows i j ≡ suc t → Says (allowed j (suc t)) =
         λ i j t h l e. subst (λ (n : ℕ). Says (allowed j n)) e ((s.0 i h).1 j l) in

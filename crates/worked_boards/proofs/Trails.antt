@@ -24,11 +24,11 @@ no_bit s n v h l =
     rw zero_is
 
 module _ (nodes W : ℕ) (arcs : List Arc) where
-  abbrev pub shortTest : Step → Test
-  shortTest x =
+  abbrev pub short_test : Step → Test
+  short_test x =
       also (also (yes (side_of x 0)) (also (yes (not (side_of x 1))) (less x.side.bits (2 ^ nodes)))) (also (less x.size W) (equal x.size (side_capacity (side_of x) x.limit arcs)))
 
-  pub is_short : (x : Step) → Says (shortTest x) → ShortStep nodes W arcs x
+  pub is_short : (x : Step) → Says (short_test x) → ShortStep nodes W arcs x
   is_short x s =
       record {
         is_side = record { source = s.0.0; sink = not-true _ s.0.1.0; below = λ v l. no_bit x.side.bits nodes v s.0.1.1 l };
@@ -37,17 +37,17 @@ module _ (nodes W : ℕ) (arcs : List Arc) where
       }
 
   module _ (trail : List Step) (runs : ℕ) where
-    abbrev turnTest : ℕ → Test
-    turnTest j =
+    abbrev turn_test : ℕ → Test
+    turn_test j =
         also (equal (step_at trail (j + 1)).limit (next_limit (side_of (step_at trail j)) W arcs))
-        (also (shortTest (step_at trail j)) (also (less 0 (counted_across (side_of (step_at trail j)) arcs)) (if_less (step_at trail (j + 1)).size W (less (counted_across (side_of (step_at trail (j + 1))) arcs) (counted_across (side_of (step_at trail j)) arcs)))))
+        (also (short_test (step_at trail j)) (also (less 0 (counted_across (side_of (step_at trail j)) arcs)) (if_less (step_at trail (j + 1)).size W (less (counted_across (side_of (step_at trail (j + 1))) arcs) (counted_across (side_of (step_at trail j)) arcs)))))
 
-    abbrev pub runsTest : Test
-    runsTest = also (less 0 runs) (also (at_most runs (length trail)) (also (equal (step_at trail 0).limit 0) (each (runs - 1) turnTest)))
+    abbrev pub runs_test : Test
+    runs_test = also (less 0 runs) (also (at_most runs (length trail)) (also (equal (step_at trail 0).limit 0) (each (runs - 1) turn_test)))
 
-    pub shows_runs : Says runsTest → ShowsRuns nodes W arcs trail runs
+    pub shows_runs : Says runs_test → ShowsRuns nodes W arcs trail runs
     shows_runs s =
-        let turn : (j : ℕ) → j + 1 < runs → Says (turnTest j) = λ j l. s.1.1.1 j (omega arith) in
+        let turn : (j : ℕ) → j + 1 < runs → Says (turn_test j) = λ j l. s.1.1.1 j (omega arith) in
         record {
           some = s.0;
           steps = s.1.0;
@@ -73,13 +73,13 @@ module _ (nodes W : ℕ) (arcs : List Arc) where
         ]
 
 module _ (types : List TypeRecord) (nozzles : List NozzleState) (trail : List Step) (runs : ℕ) where
-  abbrev pub trailTest : Test
-  trailTest =
+  abbrev pub trail_test : Test
+  trail_test =
       also (equal (length trail) runs)
-      (also (runsTest (nodes_in types nozzles) (total_in types) (arcs_in types nozzles) trail runs)
+      (also (runs_test (nodes_in types nozzles) (total_in types) (arcs_in types nozzles) trail runs)
       (also (at_most runs (in_service_count nozzles + 1)) (each (runs - 1) (λ j. if_less (step_at trail (j + 1)).size (total_in types) (less (nozzles_across types nozzles (side_of (step_at trail (j + 1)))) (nozzles_across types nozzles (side_of (step_at trail j))))))))
 
-  pub trail_kept : Says trailTest → TrailKept types nozzles trail runs
+  pub trail_kept : Says trail_test → TrailKept types nozzles trail runs
   trail_kept s =
       record {
         count = s.0;

@@ -1,6 +1,6 @@
 -- Examples worked by hand, in one table.
-use Rattle.std.specs.Prelude.{◌≡◌, ℕ, ◌+◌, ◌-◌, ◌*◌, ◌<◌, ◌≤◌, not, List, [], ◌∷◌, map, length, Some, None, ◌==◌}
-use Rattle.flows.specs.Sums.{sum_to, only, limit_step}
+use Rattle.std.specs.Prelude.{◌≡◌, ℕ, ◌-◌, ◌≤◌, not, List, [], ◌∷◌, map, length, Some, None, ◌==◌}
+use Rattle.flows.specs.Sums.{sum_to, only}
 use Rattle.network.specs.declared.sides.Cut.{Cut}
 use Rattle.limit_search.specs.declared.Step.{Step}
 use Rattle.sheets.specs.declared.NozzleState.TheVariants.{InService, Out}
@@ -17,8 +17,6 @@ use Rattle.worked_boards.specs.Boards.{Board, step, cut, row, two, two_types, on
 
 -- an example, with its figures
 pub data Example : Type 0 where
-  -- from a cut of uncounted capacity P with K counted arcs, the next limit for the wanted size W
-  limit : (W P K next : ℕ) → Example
   -- a board's cost, how many runs it takes to find it, a sheet of so many rows, and the steps of the runs
   planned : (b : Board) (cost runs : ℕ) (rows : List (List ℕ)) (trail : List Step) → Example
   -- a board without a sheet, how many runs it takes to find that, the last cut, and the steps of the runs
@@ -48,11 +46,9 @@ book_of job b = record { number = job; types = b.types; nozzles = b.nozzles; out
 abbrev pub load : List (List ℕ) → ℕ → ℕ
 load rows j = sum_to (length rows) (λ i. only (not (entry rows i j == 0)) 1)
 
--- When an example is right. A limit is by the rule, and is the least under which the cut lets W
--- through. Of a plan and of a shortage all holds that a planning promises. A gap is refused as the
--- book says. A nozzle takes so many pieces in whatever sheet of that length.
+-- When an example is right. Of a plan and of a shortage all holds that a planning promises. A gap is
+-- refused as the book says. A nozzle takes so many pieces in whatever sheet of that length.
 abbrev pub Right : Example → Type 0
-Right (limit W P K next) = (limit_step W P K ≡ next) × (W ≤ P + K * next) × ((other : ℕ) → other < next → P + K * other < W)
 Right (planned b cost runs rows trail) = IsRead b × PlannedKept b.types b.nozzles rows trail cost runs
 Right (short b runs last trail) = IsRead b × ShortKept b.types b.nozzles trail runs last
 Right (gap b kind number layer place) =
@@ -68,10 +64,7 @@ AllRight (e ∷ es) = Right e × AllRight es
 -- the table
 abbrev pub examples : List Example
 examples =
-    limit 18 4 2 7
-    ∷ limit 18 9 1 9
-    ∷ limit 7 0 2 4
-    ∷ planned two_types 4 2 (row 1 1 ∷ row 1 2 ∷ row 1 2 ∷ row 1 0 ∷ []) (step 0 0 61 ∷ step 4 7 0 ∷ [])
+    planned two_types 4 2 (row 1 1 ∷ row 1 2 ∷ row 1 2 ∷ row 1 0 ∷ []) (step 0 0 61 ∷ step 4 7 0 ∷ [])
     ∷ takes two_types 4 1 3 4
     ∷ planned (one_each two) 6 3 (row 1 2 ∷ row 1 0 ∷ row 1 0 ∷ row 1 0 ∷ row 1 0 ∷ row 1 0 ∷ []) (step 0 0 61 ∷ step 4 5 21 ∷ step 6 7 0 ∷ [])
     ∷ short (one_each (InService ∷ Out ∷ [])) 2 (cut 9 6 0) (step 0 0 29 ∷ step 7 6 9 ∷ [])

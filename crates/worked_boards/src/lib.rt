@@ -1,9 +1,9 @@
-// Examples worked by hand, and proved of the rules.
+// Boards worked by hand, and proved of the rules.
 #![tactic(auto)]
 
 ghost use Rattle.worked_boards.specs.Examples.{AllRight, examples};
 
-/// Each worked example is as the rules say.
+/// Each board worked by hand is as the rules say.
 pub fn worked_examples()
     ensures { AllRight examples }
 {}

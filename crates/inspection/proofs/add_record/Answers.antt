@@ -12,5 +12,5 @@ returns c =
     let f = fields_of c.args.«record» in
     let rest = fields_text f.quantity f.mask f.limit in
     let first = c.in_ok-add.ensures ∙ ap (λ l. vec_items text ++ l) (c.as_bytes.ensures.value ∙ c.in_ok-start.ensures.ok) in
-    let last = c.in_ok-add-2.ensures ∙ ap (λ l. vec_items c.add_name.new.text ++ l) (c.as_bytes-2.ensures.value ∙ c.in_ok-rest.ensures ∙ ap (λ f. fields_text f.quantity f.mask f.limit) c.fields_of.ensures) in
+    let last = c.in_ok-add-2.ensures ∙ ap (λ l. vec_items c.add_name.new.text ++ l) (c.as_bytes-2.ensures.value ∙ c.in_ok-rest.ensures ∙ ap (λ f. fields_text f.quantity f.mask f.limit) c.fields.ensures) in
     added (vec_items text) start (name ++ rest) first (added (vec_items c.add.new.text) name rest c.in_ok-add_name.ensures last)

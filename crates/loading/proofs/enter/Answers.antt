@@ -13,7 +13,7 @@ returns-in_ok-enter_mask c =
     let t = c.args.kind in
     let s = state_of c.args.job.now in
     let f = fields_of c.args.record in
-    let fields = c.fields_of-fields.ensures in
+    let fields = c.fields-fields.ensures in
     let P : Job → Type 0 = λ j. Run s (quantity_turns t f.quantity) (state_of j) in
     let first : P c.match-fields.job = elim c.match-fields.branch [
       | in-Some+in_ok-enter_quantity w ↦ subst P (sym w.job-is) (quantity_turn s (state_of w.enter_quantity.new.self) t w.in-Some.quantity f.quantity (sym (ap (λ f. f.quantity) fields) ∙ w.in-Some.is) w.in_ok-enter_quantity.ensures)
@@ -26,7 +26,7 @@ returns-in_default-mask c =
     let t = c.args.kind in
     let s = state_of c.args.job.now in
     let f = fields_of c.args.record in
-    let fields = c.fields_of-fields.ensures in
+    let fields = c.fields-fields.ensures in
     let P : Job → Type 0 = λ j. Run s (quantity_turns t f.quantity) (state_of j) in
     let first : P c.match-fields.job = elim c.match-fields.branch [
       | in-Some+in_ok-enter_quantity w ↦ subst P (sym w.job-is) (quantity_turn s (state_of w.enter_quantity.new.self) t w.in-Some.quantity f.quantity (sym (ap (λ f. f.quantity) fields) ∙ w.in-Some.is) w.in_ok-enter_quantity.ensures)

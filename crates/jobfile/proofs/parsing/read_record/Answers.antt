@@ -1,6 +1,7 @@
 use Rattle.std.proofs.Common.{◌≤◌, length, ◌∙◌, rules}
 use Rattle.std.proofs.lemmas.Result.{err_from_is_err_and}
-use Rattle.jobfile.proofs.Entries.{at_map, nameless, named, unnamed, whole, no_mask, no_limit, no_name}
+use Rattle.jobformat.proofs.Back.{whole}
+use Rattle.jobfile.proofs.Entries.{at_map, nameless, named, unnamed, no_mask, no_limit, no_name}
 use Rattle.jobfile.proofs.parsing.read_record.Goals as goal
 
 pub returns-in_err-mask : goal.returns-in_err-mask
