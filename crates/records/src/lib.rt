@@ -1,0 +1,11 @@
+// The record of a component type, in a job file and in a job.
+#![tactic(auto)]
+
+/// What is entered of a component type: `None` is not entered, or no limit, and never 0. Bit j - 1
+/// of the mask stands for nozzle j. In a new record nothing is entered.
+#[derive(Clone, Copy, PartialEq, Eq, Debug, Default)]
+pub struct TypeRecord {
+    pub quantity: Option<u16>,
+    pub mask: Option<u8>,
+    pub limit: Option<u16>,
+}
