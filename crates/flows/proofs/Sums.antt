@@ -1,7 +1,12 @@
 -- Sums below n.
-use Rattle.std.proofs.Common.{◌≡◌, ℕ, zero, suc, ◌+◌, ◌*◌, ◌<◌, ◌≤◌, ◌≢◌, inl, inr, arith}
+use Rattle.std.proofs.Common.{◌≡◌, ℕ, zero, suc, ◌+◌, ◌*◌, ◌<◌, ◌≤◌, ◌≢◌, inl, inr, List, length, take, refl, ap, ◌∙◌, add-one, arith}
+use Rattle.std.specs.List.{sum_by}
 use Rattle.std.proofs.lemmas.Bool.{cases_lt}
+use Rattle.std.proofs.Math.Seq.{take-length}
+use Rattle.std.proofs.lemmas.List.Sums.{sum_by_more}
+use Rattle.flows.specs.declared.Arc.{Arc}
 use Rattle.flows.specs.Sums.{sum_to}
+use Rattle.flows.specs.Flows.{no_arc, arc_at, sum_arcs}
 
 pub sum_balance : (f g h k : ℕ → ℕ) → ((i : ℕ) → f i + g i ≡ h i + k i) → (n : ℕ) → sum_to n f + sum_to n g ≡ sum_to n h + sum_to n k
 sum_balance f g h k e zero = omega arith
@@ -51,3 +56,13 @@ term_le f i (suc n) h =
       | inl l ↦ omega (arith, term_le f i n l)
       | inr l ↦ let at : i ≡ n = omega arith in rw at (omega arith)
     ]
+
+-- a sum over the places of a list of arcs, as the library's sum over its elements
+sum_taken : (f : Arc → ℕ) (arcs : List Arc) (n : ℕ) → n ≤ length arcs → sum_to n (λ i. f (arc_at arcs i)) ≡ sum_by f (take n arcs)
+sum_taken f arcs zero h = refl
+sum_taken f arcs (suc n) h =
+    let more : sum_by f (take (suc n) arcs) ≡ sum_by f (take n arcs) + f (arc_at arcs n) = rw add-one at (sum_by_more f arcs n no_arc (omega arith)) in
+    omega (arith, sum_taken f arcs n (omega arith))
+
+pub sum_arcs_by : (f : Arc → ℕ) (arcs : List Arc) → sum_arcs f arcs ≡ sum_by f arcs
+sum_arcs_by f arcs = sum_taken f arcs (length arcs) (omega arith) ∙ ap (sum_by f) (take-length arcs)

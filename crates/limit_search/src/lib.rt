@@ -13,7 +13,7 @@ use network::{Amount, Answer, Cut, Engine, Network, NetworkFault, Side};
 
 /// One run: the limit, the size reached, and the side that shows it short, empty where it reached
 /// the wanted size.
-#[derive(Clone, Copy, PartialEq, Eq, Debug)]
+#[derive(Clone, Copy, PartialEq, Eq, Debug, Default)]
 pub struct Step {
     pub limit: u32,
     pub size: u32,
@@ -52,10 +52,7 @@ fn next_limit(cut: Cut, wanted: Amount) -> Amount
     requires some { 0 < cut.counted }
     ensures { result.value ≡ limit_step wanted.value cut.fixed cut.counted }
 {
-    match Amount::new(rounded_up(wanted.value() - cut.fixed, cut.counted)) {
-        Ok(limit) => limit,
-        Err(_) => unreachable(),
-    }
+    Amount::try_from(rounded_up(wanted.value() - cut.fixed, cut.counted)).unwrap()
 }
 
 /// Looks for the least limit under which a flow of the wanted size exists: from 0 up, by the cut of

@@ -1,5 +1,5 @@
 // Limits and wanted sizes.
-ghost use Rattle.std.specs.Prelude.{◌≡◌, ◌<◌, ◌≤◌, Ok, Err};
+ghost use Rattle.std.specs.Prelude.{◌≡◌, ◌<◌, ◌≤◌, MatchResult};
 ghost use Rattle.network.specs.declared.faults.NetworkFault.TheVariants.{TooLarge};
 
 use crate::faults::NetworkFault;
@@ -18,20 +18,24 @@ impl Amount {
     /// The least amount.
     pub const ZERO: Amount = Amount { value: 0 };
 
-    /// The amount of this value, or a refusal where it is too large.
-    pub fn new(value: u32) -> Result<Amount, NetworkFault>
-        ensures { elim result [ Ok a ↦ a.value ≡ value | Err e ↦ (e ≡ TooLarge) × (2000000 < value) ] }
-    {
-        if value > MOST {
-            return Err(NetworkFault::TooLarge);
-        }
-        Ok(Amount { value })
-    }
-
     /// The amount as a number.
     pub fn value(self) -> u32
         ensures { result ≡ self.value }
     {
         self.value
+    }
+}
+
+/// The amount of this value, or a refusal where it is too large.
+impl TryFrom<u32> for Amount {
+    type Error = NetworkFault;
+
+    ghost try_from_gives = { λ value r. MatchResult r (λ a. a.value ≡ value) (λ e. (e ≡ TooLarge) × (2000000 < value)) };
+
+    fn try_from(value: u32) -> Result<Amount, NetworkFault> {
+        if value > MOST {
+            return Err(NetworkFault::TooLarge);
+        }
+        Ok(Amount { value })
     }
 }

@@ -1,6 +1,10 @@
 // What the network layer refuses.
-ghost use Rattle.std.specs.Prelude.{◌≡◌};
-ghost use Rattle.network.specs.Faults.{number_of, layer_of, place_of};
+ghost use Rattle.network.specs.Faults.{number_of, layer_of, place_of, fault_text};
+ghost use Rattle.std.specs.Prelude.{Some};
+
+use refusals::Refusal;
+use std::error::Error;
+use std::fmt;
 
 /// A refusal of the network layer.
 #[derive(Clone, Copy, PartialEq, Eq, Debug)]
@@ -15,11 +19,14 @@ pub enum NetworkFault {
     BadArc { arc: usize },
 }
 
-impl NetworkFault {
-    /// The refusal's number.
-    pub fn number(&self) -> u8
-        ensures { result ≡ number_of self.now }
-    {
+impl Refusal for NetworkFault {
+    ghost number = { number_of };
+
+    ghost layer = { layer_of };
+
+    ghost place = { place_of };
+
+    fn number(&self) -> u8 {
         match self {
             NetworkFault::TooLarge => 3,
             NetworkFault::ShortTrail { .. } => 9,
@@ -28,17 +35,12 @@ impl NetworkFault {
         }
     }
 
-    /// The layer that refuses.
-    pub fn layer(&self) -> u8
-        ensures { result ≡ layer_of self.now }
-    {
+    fn layer(&self) -> u8 {
         2
     }
 
     /// Where: 0 for an amount, the places needed, 256 for a count, or the arc.
-    pub fn place(&self) -> usize
-        ensures { result ≡ place_of self.now }
-    {
+    fn place(&self) -> usize {
         match self {
             NetworkFault::TooLarge => 0,
             NetworkFault::ShortTrail { needed } => *needed,
@@ -47,3 +49,20 @@ impl NetworkFault {
         }
     }
 }
+
+impl fmt::Display for NetworkFault {
+    ghost output = { λ fault. Some (fault_text fault) };
+
+    fn fmt<W: fmt::Write>(&self, f: &mut fmt::Formatter<W>) -> fmt::Result {
+        match self {
+            NetworkFault::TooLarge => write!(f, "the amount is above 2000000"),
+            NetworkFault::ShortTrail { needed } => {
+                write!(f, "the trail is too short, needed in steps: {needed}")
+            }
+            NetworkFault::BadCount => write!(f, "not 2 to 64 nodes, or more than 256 arcs"),
+            NetworkFault::BadArc { arc } => write!(f, "arc {arc} breaks a rule"),
+        }
+    }
+}
+
+impl Error for NetworkFault {}

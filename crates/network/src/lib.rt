@@ -8,8 +8,9 @@ mod nets;
 mod sides;
 
 pub use amounts::Amount;
-pub use engines::{Answer, Engine};
+pub use engines::{Answer, CountingEngine, Engine, Method};
 pub use faults::NetworkFault;
 pub use flows::{Arc, Capacity};
 pub use nets::Network;
+pub use refusals::Refusal;
 pub use sides::{Cut, Side};

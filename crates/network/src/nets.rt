@@ -1,37 +1,35 @@
-// A network: its nodes and its table of arcs.
-ghost use Rattle.std.specs.Prelude.{◌≡◌, length, take, Ok, Err};
-ghost use Rattle.network.specs.Rules.{CountsOk, ArcsOk, Refused, arc_ok};
+// A network: its nodes and its arcs.
+ghost use Rattle.std.specs.Prelude.{◌≡◌, not, length, position};
+ghost use Rattle.network.specs.Rules.{CountsOk, ArcsOk, arc_ok};
 
 use crate::amounts::MOST;
 use crate::faults::NetworkFault;
+use arrayvec::ArrayVec;
 use flows::{Arc, Capacity};
 
-/// A network of 2 to 64 nodes, of which 0 is the source and 1 the sink, and up to 256 arcs, the
-/// first `count` of the table.
+/// A network of 2 to 64 nodes, of which 0 is the source and 1 the sink, and up to 256 arcs, in a
+/// table of its own.
 #[derive(Drop)]
 pub struct Network {
     nodes: u8,
-    count: usize,
-    table: [Arc; 256],
-    ghost counts: { CountsOk nodes count },
-    ghost long: { length table ≡ 256 },
-    ghost rules: { ArcsOk nodes count table },
+    arcs: ArrayVec<Arc, 256>,
+    ghost counts: { CountsOk nodes (length arcs.items) },
+    ghost rules: { ArcsOk nodes (length arcs.items) arcs.items },
 }
 
 impl Network {
+    ghost use Rattle.std.specs.Prelude.{[], Ok, Err};
+    ghost use Rattle.network.specs.Nets.{arcs_of};
+    ghost use Rattle.network.specs.Rules.{Refused};
+
     /// The source and the sink, and no arc.
     pub fn empty() -> Network
-        ensures { (result.nodes ≡ 2) × (result.count ≡ 0) }
+        ensures nodes { result.nodes ≡ 2 }
+        ensures arcs { arcs_of result ≡ [] }
     {
-        let unused = Arc {
-            tail: 0,
-            head: 1,
-            capacity: Capacity::Counted,
-        };
         Network {
             nodes: 2,
-            count: 0,
-            table: [unused; 256],
+            arcs: ArrayVec::new(),
         }
     }
 
@@ -44,40 +42,41 @@ impl Network {
 
     /// The arcs, in the order in which they were given.
     pub fn arcs(&self) -> &[Arc]
-        ensures { result.now ≡ take self.now.count self.now.table }
+        ensures { result.now ≡ arcs_of self.now }
     {
-        &self.table[0..self.count]
+        self.arcs.as_slice()
     }
 
     /// Takes these nodes and arcs in place of those that it had, or refuses them and stays as it
     /// was.
     pub fn fill(&mut self, nodes: u8, arcs: &[Arc]) -> Result<(), NetworkFault>
-        ensures { elim result [ Ok _ ↦ (self.new.nodes ≡ nodes) × (take self.new.count self.new.table ≡ arcs.now) | Err e ↦ (self.new ≡ self.old) × Refused nodes arcs.now e ] }
+        ensures { elim result [ Ok _ ↦ (self.new.nodes ≡ nodes) × (arcs_of self.new ≡ arcs.now) | Err e ↦ (self.new ≡ self.old) × Refused nodes arcs.now e ] }
     {
         if nodes < 2 || nodes > 64 || arcs.len() > 256 {
             return Err(NetworkFault::BadCount);
         }
-        for (i, arc) in arcs.iter().enumerate() {
-            if !keeps_rules(nodes, *arc) {
-                return Err(NetworkFault::BadArc { arc: i });
-            }
+        if let Some(arc) = first_bad(nodes, arcs) {
+            return Err(NetworkFault::BadArc { arc });
         }
-        let mut table = self.table;
-        table[0..arcs.len()].copy_from_slice(arcs);
-        *self = Network {
-            nodes,
-            count: arcs.len(),
-            table,
-        };
+        let mut table = ArrayVec::new();
+        table.try_extend_from_slice(arcs).unwrap();
+        *self = Network { nodes, arcs: table };
         Ok(())
     }
+}
+
+// The lowest arc that breaks a rule of a network of so many nodes.
+fn first_bad(nodes: u8, arcs: &[Arc]) -> Option<usize>
+    ensures { result ≡ position (λ a. not (arc_ok nodes a)) arcs.now }
+{
+    arcs.iter().position(|arc| !keeps_rules(nodes, *arc))
 }
 
 // Whether an arc keeps the rules of a network of so many nodes.
 fn keeps_rules(nodes: u8, arc: Arc) -> bool
     ensures { result ≡ arc_ok nodes arc }
 {
-    let small = match arc.capacity {
+    let is_small = match arc.capacity {
         Capacity::Fixed(most) => most <= MOST,
         Capacity::Counted => true,
     };
@@ -86,5 +85,5 @@ fn keeps_rules(nodes: u8, arc: Arc) -> bool
         && arc.tail != arc.head
         && arc.head != 0
         && arc.tail != 1
-        && small
+        && is_small
 }

@@ -7,7 +7,7 @@ use crate::nets::Network;
 use flows::{Arc, Capacity};
 
 /// A set of nodes: node i is bit i.
-#[derive(Clone, Copy, PartialEq, Eq, Debug)]
+#[derive(Clone, Copy, PartialEq, Eq, Debug, Default)]
 pub struct Side {
     pub bits: u64,
 }
@@ -43,14 +43,10 @@ impl Network {
     pub fn counted(&self) -> usize
         ensures { result ≡ counted_arcs (arcs_of self.now) }
     {
-        let mut counted = 0;
-        let arcs = self.arcs();
-        for arc in arcs {
-            if let Capacity::Counted = arc.capacity {
-                counted += 1;
-            }
-        }
-        counted
+        self.arcs()
+            .iter()
+            .filter(|arc| arc.capacity == Capacity::Counted)
+            .count()
     }
 
     /// The side with the figures of its cut.
@@ -61,8 +57,7 @@ impl Network {
     {
         let mut fixed = 0;
         let mut counted = 0;
-        let arcs = self.arcs();
-        for arc in arcs {
+        for arc in self.arcs() {
             if side.crossed_by(*arc) {
                 match arc.capacity {
                     Capacity::Fixed(most) => fixed += most,

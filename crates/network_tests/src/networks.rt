@@ -1,30 +1,14 @@
 // Networks that keep the rules, and networks that break one.
-use network::{Amount, Arc, Capacity, Network, NetworkFault, Side};
+use network::{Amount, Arc, Network, NetworkFault, Refusal, Side};
 use std::process::Abort;
 use std::test::Fail;
-
-fn fixed(tail: u8, head: u8, most: u32) -> Arc {
-    Arc {
-        tail,
-        head,
-        capacity: Capacity::Fixed(most),
-    }
-}
-
-fn counted(tail: u8, head: u8) -> Arc {
-    Arc {
-        tail,
-        head,
-        capacity: Capacity::Counted,
-    }
-}
 
 /// A network takes the first arc and refuses the second, which breaks a rule, and stays as it was.
 fn is_refused(rt: &impl Abort, nodes: u8, arc: Arc, what: &str) {
     let mut net = Network::empty();
-    assert_eq!(rt; net.fill(3, &[counted(2, 1)]), Ok(()));
+    assert_eq!(rt; net.fill(3, &[Arc::counted(2, 1)]), Ok(()));
     assert_eq!(rt;
-        net.fill(nodes, &[fixed(0, 1, 1), arc]),
+        net.fill(nodes, &[Arc::fixed(0, 1, 1), arc]),
         Err(NetworkFault::BadArc { arc: 1 }),
         "{what}"
     );
@@ -36,15 +20,22 @@ fn is_refused(rt: &impl Abort, nodes: u8, arc: Arc, what: &str) {
 
 #[test]
 fn arcs_keep_the_rules(rt: HostRuntime) {
-    is_refused(&rt, 4, fixed(2, 2, 1), "from a node to itself");
-    is_refused(&rt, 4, fixed(2, 0, 1), "into the source");
-    is_refused(&rt, 4, counted(1, 2), "out of the sink");
-    is_refused(&rt, 4, fixed(4, 1, 1), "from no node");
-    is_refused(&rt, 4, fixed(0, 4, 1), "to no node");
-    is_refused(&rt, 4, fixed(0, 2, 2_000_001), "too large a capacity");
+    is_refused(&rt, 4, Arc::fixed(2, 2, 1), "from a node to itself");
+    is_refused(&rt, 4, Arc::fixed(2, 0, 1), "into the source");
+    is_refused(&rt, 4, Arc::counted(1, 2), "out of the sink");
+    is_refused(&rt, 4, Arc::fixed(4, 1, 1), "from no node");
+    is_refused(&rt, 4, Arc::fixed(0, 4, 1), "to no node");
+    is_refused(&rt, 4, Arc::fixed(0, 2, 2_000_001), "too large a capacity");
     let mut net = Network::empty();
     assert_eq!(rt;
-        net.fill(4, &[fixed(0, 3, 2_000_000), fixed(3, 2, 0), fixed(2, 3, 1)]),
+        net.fill(
+            4,
+            &[
+                Arc::fixed(0, 3, 2_000_000),
+                Arc::fixed(3, 2, 0),
+                Arc::fixed(2, 3, 1)
+            ]
+        ),
         Ok(())
     );
 }
@@ -52,11 +43,14 @@ fn arcs_keep_the_rules(rt: HostRuntime) {
 #[test]
 fn counts_are_checked_first(rt: HostRuntime) {
     let mut net = Network::empty();
-    assert_eq!(rt; net.fill(1, &[fixed(2, 2, 1)]), Err(NetworkFault::BadCount));
-    assert_eq!(rt; net.fill(65, &[]), Err(NetworkFault::BadCount));
-    assert_eq!(rt; net.fill(64, &[counted(0, 1); 256]), Ok(()));
     assert_eq!(rt;
-        net.fill(2, &[counted(0, 1); 257]),
+        net.fill(1, &[Arc::fixed(2, 2, 1)]),
+        Err(NetworkFault::BadCount)
+    );
+    assert_eq!(rt; net.fill(65, &[]), Err(NetworkFault::BadCount));
+    assert_eq!(rt; net.fill(64, &[Arc::counted(0, 1); 256]), Ok(()));
+    assert_eq!(rt;
+        net.fill(2, &[Arc::counted(0, 1); 257]),
         Err(NetworkFault::BadCount)
     );
     assert!(rt; net.nodes() == 64 && net.arcs().len() == 256 && net.counted() == 256);
@@ -66,11 +60,11 @@ fn counts_are_checked_first(rt: HostRuntime) {
 
 #[test]
 fn amounts_are_small(rt: HostRuntime) -> Result<(), Fail> {
-    match Amount::new(2_000_000) {
+    match Amount::try_from(2_000_000) {
         Ok(amount) => assert_eq!(rt; amount.value(), 2_000_000),
         Err(_) => return Err(Fail::new("refused")),
     }
-    match Amount::new(2_000_001) {
+    match Amount::try_from(2_000_001) {
         Ok(_) => Err(Fail::new("taken")),
         Err(fault) => {
             assert_eq!(rt; (fault.number(), fault.layer(), fault.place()), (3, 2, 0));
@@ -96,12 +90,12 @@ fn faults_have_numbers(rt: HostRuntime) {
 fn cuts_have_figures(rt: HostRuntime) {
     let mut net = Network::empty();
     let arcs = [
-        fixed(0, 2, 5),
-        fixed(0, 3, 2),
-        fixed(2, 4, 7),
-        fixed(3, 2, 9),
-        counted(2, 1),
-        counted(4, 1),
+        Arc::fixed(0, 2, 5),
+        Arc::fixed(0, 3, 2),
+        Arc::fixed(2, 4, 7),
+        Arc::fixed(3, 2, 9),
+        Arc::counted(2, 1),
+        Arc::counted(4, 1),
     ];
     assert_eq!(rt; net.fill(5, &arcs), Ok(()));
     let all_but_sink = net.cut(Side { bits: 0b11101 });

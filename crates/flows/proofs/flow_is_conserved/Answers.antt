@@ -1,5 +1,5 @@
 use Rattle.flows.proofs.Cuts.{conserved}
 use Rattle.flows.proofs.flow_is_conserved.Goals as goal
 
-pub returns-clause-law : goal.returns-clause-law
-returns-clause-law c = λ nodes L arcs xs p o f s. conserved o f s
+pub returns : goal.returns
+returns c = λ nodes L arcs xs p o f s. conserved o f s

@@ -6,12 +6,12 @@ use Rattle.network.proofs.nets.Network.cut.Goals.{then-crossed_by+in-Fixed, then
 
 pub overflow_add-fixed : goal.overflow_add-fixed
 overflow_add-fixed c =
-    let s = sound_at c.args.self.now _ c.arcs-arcs.ensures _ c.loop-arc-test.true in
-    omega (arith, at_most c.args.self.now _ c.arcs-arcs.ensures, ap fixed_of c.in-Fixed.is)
+    let s = sound_at c.args.self.now _ c.arcs-arc-items.ensures _ c.loop-arc-test.true in
+    omega (arith, at_most c.args.self.now _ c.arcs-arc-items.ensures, ap fixed_of c.in-Fixed.is)
 
 pub loop-arc-preserved : goal.loop-arc-preserved
 loop-arc-preserved c =
-    let s = sound_at c.args.self.now _ c.arcs-arcs.ensures _ c.loop-arc-test.true in
+    let s = sound_at c.args.self.now _ c.arcs-arc-items.ensures _ c.loop-arc-test.true in
     elim c.if-crossed_by.branch [
       | then-crossed_by+in-Fixed w ↦
           let b = w.if-crossed_by.ensures in

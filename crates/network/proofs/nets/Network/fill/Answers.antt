@@ -1,21 +1,16 @@
-use Rattle.std.proofs.Common.{◌≡◌, ℕ, ◌<◌, List, ◌++◌, length, refl, ap, ◌∙◌, arith, rules}
-use Rattle.std.proofs.lemmas.List.{places, get_or_append_left, take_at}
-use Rattle.flows.specs.declared.Arc.{Arc}
-use Rattle.flows.specs.Flows.{no_arc}
-use Rattle.network.specs.Rules.{ArcsOk}
+use Rattle.std.proofs.Common.{◌≡◌, length, refl, ap, sym, ◌∙◌, arith, rules}
+use Rattle.network.proofs.Facts.{first_bad_at, none_bad, rules_kept}
 use Rattle.network.proofs.nets.Network.fill.Goals as goal
 
--- the arcs keep the rules, whatever stands after them
-front_ok : (nodes : ℕ) (front arcs after : List Arc) → front ≡ arcs → ArcsOk nodes (length arcs) arcs → ArcsOk nodes (length arcs) (front ++ after)
-front_ok nodes front arcs after e ok k h = let l : k < length front = omega (arith, ap length e) in rw (get_or_append_left front after no_arc k l, e) (ok k h)
+pub returns-in-Some : goal.returns-in-Some
+returns-in-Some c =
+    let bad = first_bad_at _ _ _ (sym c.first_bad.ensures ∙ c.in-Some.is) in
+    (refl, ((c.if-nodes-lt2.false, c.if-nodes-gt64.false, c.if-arcs-gt256.false), bad.0, bad.1, bad.2))
 
 pub invariant_of-self : goal.invariant_of-self
 invariant_of-self c =
+    let same : c.try_extend_from_slice.new.self.items ≡ c.args.arcs.now = search rules in
     record {
-      counts = search rules;
-      long = search (rules, places);
-      rules = front_ok _ _ _ _ c.copy_from_slice.ensures.after (λ k h. c.loop-i.invariant k (omega arith));
+      counts = (c.if-nodes-lt2.false, c.if-nodes-gt64.false, omega (arith, ap length same));
+      rules = rules_kept _ _ _ same (none_bad _ _ (sym c.first_bad.ensures ∙ c.in_default.is));
     }
-
-pub returns : goal.returns
-returns c = (refl, take_at _ _ _ (ap length c.copy_from_slice.ensures.after) ∙ c.copy_from_slice.ensures.after)
