@@ -5,6 +5,7 @@ ghost use Rattle.book.specs.Faults.{number_of, layer_of, place_of, of_board};
 
 use jobformat::FileFault;
 use network::NetworkFault;
+use refusals::Refusal;
 use sheets::BoardFault;
 
 /// A refusal of the job layer, or one of a lower layer, passed on whole.
@@ -34,11 +35,14 @@ pub enum JobFault {
     Network(NetworkFault),
 }
 
-impl JobFault {
-    /// The refusal's number.
-    pub fn number(&self) -> u8
-        ensures { result ≡ number_of self.now }
-    {
+impl Refusal for JobFault {
+    ghost number = { number_of };
+
+    ghost layer = { layer_of };
+
+    ghost place = { place_of };
+
+    fn number(&self) -> u8 {
         match self {
             JobFault::BadSize => 1,
             JobFault::NoSuchType { .. } | JobFault::NoSuchNozzle { .. } => 2,
@@ -54,10 +58,7 @@ impl JobFault {
         }
     }
 
-    /// The layer that refuses.
-    pub fn layer(&self) -> u8
-        ensures { result ≡ layer_of self.now }
-    {
+    fn layer(&self) -> u8 {
         match self {
             JobFault::File(fault) => fault.layer(),
             JobFault::Network(fault) => fault.layer(),
@@ -66,9 +67,7 @@ impl JobFault {
     }
 
     /// Where: a type, a nozzle, the number given, or the places needed.
-    pub fn place(&self) -> usize
-        ensures { result ≡ place_of self.now }
-    {
+    fn place(&self) -> usize {
         match self {
             JobFault::BadSize | JobFault::NoPlan => 0,
             JobFault::NoSuchType { kind }

@@ -28,7 +28,7 @@ pub(crate) fn network_of(nodes: u8, arcs: &[Arc]) -> Result<Network, Fail> {
 }
 
 pub(crate) fn amount(value: u32) -> Result<Amount, Fail> {
-    match Amount::new(value) {
+    match Amount::try_from(value) {
         Ok(amount) => Ok(amount),
         Err(_) => Err(Fail::new("no amount")),
     }

@@ -68,7 +68,7 @@ fn repeat<E: Engine>(
 }
 
 fn amount(value: u32) -> anyhow::Result<Amount> {
-    match Amount::new(value) {
+    match Amount::try_from(value) {
         Ok(amount) => Ok(amount),
         Err(_) => Err(anyhow!("the amount is too large")),
     }

@@ -19,10 +19,10 @@ pub(crate) fn run_agrees<E: Engine>(
     wanted: u32,
     sizes: u64,
 ) -> bool {
-    let Ok(under) = Amount::new(limit) else {
+    let Ok(under) = Amount::try_from(limit) else {
         return false;
     };
-    let Ok(size) = Amount::new(wanted) else {
+    let Ok(size) = Amount::try_from(wanted) else {
         return false;
     };
     let before = engine.count();
@@ -51,7 +51,7 @@ pub(crate) fn search_agrees<E: Engine>(
     wanted: u32,
     least: Option<u32>,
 ) -> bool {
-    let Ok(size) = Amount::new(wanted) else {
+    let Ok(size) = Amount::try_from(wanted) else {
         return false;
     };
     let mut flow = [0; 256];

@@ -63,7 +63,7 @@ impl Board {
         for order in orders {
             sum += order.pieces();
         }
-        match Amount::new(sum) {
+        match Amount::try_from(sum) {
             Ok(all) => all,
             Err(_fault) => unreachable(),
         }

@@ -1,6 +1,7 @@
-use mathlib.Core.Path.{refl}
-use native.Mathlib.Omega.{arith}
+use Rattle.std.proofs.Common.{refl}
+use Rattle.worked.specs.Examples.{examples}
+use Rattle.worked.proofs.Rights.{all_right}
 use Rattle.worked.proofs.worked_examples.Goals as goal
 
-pub returns-clause-law : goal.returns-clause-law
-returns-clause-law c = ((refl, omega arith, λ L h. omega arith), ((refl, omega arith, λ L h. omega arith), ((refl, omega arith, λ L h. omega arith), tt)))
+pub returns : goal.returns
+returns c = all_right examples refl

@@ -13,8 +13,8 @@ use Rattle.sheets.specs.Sheets.{IsSheet}
 use Rattle.sheets.proofs.Fewest.{none_fewer, no_sheet}
 use Rattle.book.specs.Books.{orders_in}
 use Rattle.book.specs.Keeps.{Complete, TrailKept, nodes_in, arcs_in, total_in, in_service_count, nozzles_across}
-use Rattle.worked_boards.proofs.Tests.{Test, yes, equal, at_most, less, also, each, if_less, Says}
-use Rattle.worked_boards.proofs.Ready.{whole, from_source}
+use Rattle.worked.proofs.Tests.{Test, yes, equal, at_most, less, also, each, if_less, Says}
+use Rattle.worked.proofs.Ready.{whole, from_source}
 
 -- a number below 2 ^ n has no bit from n on
 no_bit : (s n v : ℕ) → s < 2 ^ n → n ≤ v → inside s v ≡ false

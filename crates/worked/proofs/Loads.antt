@@ -11,8 +11,8 @@ use Rattle.sheets.proofs.Sums.{swap, sum_most, only_le}
 use Rattle.sheets.proofs.Whole.{quantity_of, to_whole}
 use Rattle.book.specs.Books.{orders_in}
 use Rattle.book.specs.Keeps.{Complete, total_in}
-use Rattle.worked_boards.specs.Examples.{load}
-use Rattle.worked_boards.proofs.Ready.{whole}
+use Rattle.worked.specs.Examples.{load}
+use Rattle.worked.proofs.Ready.{whole}
 
 -- all terms but one are at most c
 but_one : (f : ℕ → ℕ) (c j n : ℕ) → j < n → ((i : ℕ) → f i ≤ c) → sum_to n f + c ≤ f j + n * c

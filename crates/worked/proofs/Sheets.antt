@@ -5,7 +5,7 @@ use Rattle.flows.specs.Sums.{sum_to}
 use Rattle.sheets.specs.declared.NozzleState.{NozzleState}
 use Rattle.sheets.specs.declared.TypeRecord.{TypeRecord}
 use Rattle.sheets.specs.Sheets.{IsSheet, Within, type_at, is_member, in_service, entry, taken}
-use Rattle.worked_boards.proofs.Tests.{Test, yes, equal, at_most, less, also, each, Says}
+use Rattle.worked.proofs.Tests.{Test, yes, equal, at_most, less, also, each, Says}
 
 -- a number is there, and is n
 abbrev just : Option ℕ → ℕ → Test

@@ -4,9 +4,9 @@ use lib.ListN.{length-map}
 use Rattle.std.specs.Str.{bytes_eq}
 use Rattle.std.proofs.lemmas.Slice.Eq.{bytes_eq-Decides}
 use Rattle.jobformat.specs.Format.{Entry, TwoBytes, AllFine, fits, file_bytes}
-use Rattle.worked_boards.specs.Boards.{Board}
-use Rattle.worked_boards.specs.Examples.{IsRead, contents}
-use Rattle.worked_boards.proofs.Tests.{Test, yes, at_most, less, also, Says}
+use Rattle.worked.specs.Boards.{Board}
+use Rattle.worked.specs.Examples.{IsRead, contents}
+use Rattle.worked.proofs.Tests.{Test, yes, at_most, less, also, Says}
 
 -- a number of two bytes, where there is one
 abbrev two_bytes_test : Option ℕ → Test

@@ -1,6 +1,7 @@
 -- The test of a table of examples. Where it passes, each example is right.
 use Rattle.std.proofs.Common.{◌≡◌, ℕ, suc, ◌+◌, ◌-◌, ◌*◌, ◌≤◌, true, false, cond, List, [], ◌∷◌, length, Some, refl, ap, inl, inr, arith}
 use Rattle.std.proofs.lemmas.Bool.{both_ways, cases_Bool}
+use Rattle.flows.specs.Sums.{limit_step}
 use Rattle.flows.specs.Flows.{inside, fixed_across, counted_across}
 use Rattle.network.specs.declared.sides.Cut.{Cut}
 use Rattle.limit_search.specs.declared.Step.{Step}
@@ -12,13 +13,13 @@ use Rattle.book.specs.declared.faults.JobFault.TheVariants.{NotEntered}
 use Rattle.book.specs.Turns.{missing}
 use Rattle.book.specs.Faults.{number_of, layer_of, place_of}
 use Rattle.book.specs.Keeps.{PlannedKept, ShortKept, nodes_in, arcs_in, total_in, nozzles_across}
-use Rattle.worked_boards.specs.Boards.{Board}
-use Rattle.worked_boards.specs.Examples.{Example, planned, short, gap, takes, Right, AllRight, load}
-use Rattle.worked_boards.proofs.Tests.{Test, yes, equal, at_most, also, each, passes, Says, sound}
-use Rattle.worked_boards.proofs.Files.{read_test, is_read}
-use Rattle.worked_boards.proofs.Sheets.{sheet_test, is_sheet}
-use Rattle.worked_boards.proofs.Trails.{short_test, is_short, trail_test, trail_kept, fewest, no_sheet_past}
-use Rattle.worked_boards.proofs.Loads.{load_most, load_least}
+use Rattle.worked.specs.Boards.{Board}
+use Rattle.worked.specs.Examples.{Example, limit, planned, short, gap, takes, Right, AllRight, load}
+use Rattle.worked.proofs.Tests.{Test, yes, equal, at_most, less, also, each, passes, Says, sound}
+use Rattle.worked.proofs.Files.{read_test, is_read}
+use Rattle.worked.proofs.Sheets.{sheet_test, is_sheet}
+use Rattle.worked.proofs.Trails.{short_test, is_short, trail_test, trail_kept, fewest, no_sheet_past}
+use Rattle.worked.proofs.Loads.{load_most, load_least}
 
 -- nothing is missing
 abbrev complete_test : Board → Test
@@ -101,7 +102,11 @@ is_gap k n (x ∷ xs) s =
     ]
 
 -- the test of an example
+abbrev limit_test : (W P K next : ℕ) → Test
+limit_test W P K next = also (equal (limit_step W P K) next) (also (at_most W (P + K * next)) (each next (λ other. less (P + K * other) W)))
+
 abbrev test_of : Example → Test
+test_of (limit W P K next) = limit_test W P K next
 test_of (planned b cost runs rows trail) = also (read_test b) (planned_test b cost runs rows trail)
 test_of (short b runs last trail) = also (read_test b) (shortage_test b runs last trail)
 test_of (gap b kind number layer place) =
@@ -109,6 +114,7 @@ test_of (gap b kind number layer place) =
 test_of (takes b subtours nozzle least most) = also (read_test b) (takes_test b subtours nozzle least most)
 
 right : (e : Example) → Says (test_of e) → Right e
+right (limit W P K next) s = s
 right (planned b cost runs rows trail) s = (is_read b s.0, is_planned b cost runs rows trail s.1)
 right (short b runs last trail) s = (is_read b s.0, is_shortage b runs last trail s.1)
 right (gap b kind number layer place) s = (is_read b s.0, λ job. is_gap kind 1 b.types s.1.0, s.1.1.0, s.1.1.1.0, s.1.1.1.1)

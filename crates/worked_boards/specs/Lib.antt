@@ -1,2 +1,0 @@
-pub mod Boards
-pub mod Examples
