@@ -5,11 +5,13 @@
 ghost use Rattle.std.specs.Prelude.{◌≡◌, ◌≤◌, ◌++◌, length, take};
 ghost use Rattle.report.specs.Lines.{numbers_text, outcome_text, outcome_refusal, refusal_text, subtour_text, subtour_refusal, Written, Reported};
 
+mod line;
+
 use book::{JobFault, Outcome};
 use job::Job;
-use tail::Tail;
-
-mod tail;
+pub use line::LONGEST_LINE;
+use line::{copy_to, line_of};
+use refusals::Refusal;
 
 /// How many nozzles a job may have.
 const MOST_NOZZLES: usize = 8;
@@ -19,9 +21,7 @@ fn put_line(word: &[u8], numbers: &[usize], out: &mut [u8]) -> Result<usize, Job
     requires { (length word.now ≤ 8) × (length numbers.now ≤ 8) }
     ensures { Written (word.now ++ numbers_text numbers.now) out.old result out.new }
 {
-    let mut line = Tail::of(numbers);
-    line.put_word(word);
-    line.copy_to(out)
+    copy_to(line_of(word, numbers).as_slice(), out)
 }
 
 /// Writes how a planning ended: `planned`, the cost and the runs, or `short` and the runs.
@@ -39,21 +39,16 @@ pub fn outcome_line(outcome: Outcome, out: &mut [u8]) -> Result<usize, JobFault>
 pub fn refusal_line(fault: JobFault, out: &mut [u8]) -> Result<usize, JobFault>
     ensures { Written (refusal_text fault) out.old result out.new }
 {
-    let number = fault.number() as usize;
-    let layer = fault.layer() as usize;
+    let number = usize::from(fault.number());
+    let layer = usize::from(fault.layer());
     put_line(b"refused ", &[number, layer, fault.place()], out)
 }
 
-/// The first bytes of a row as numbers.
-fn numbers_of(row: &[u8; MOST_NOZZLES], count: usize) -> [usize; MOST_NOZZLES]
-    requires { count ≤ 8 }
-    ensures { take count result ≡ take count row.now }
+/// The bytes of a row as numbers.
+fn numbers_of(row: [u8; MOST_NOZZLES]) -> [usize; MOST_NOZZLES]
+    ensures { result ≡ row }
 {
-    let mut numbers = [0; MOST_NOZZLES];
-    for i in 0..count {
-        numbers[i] = row[i] as usize;
-    }
-    numbers
+    row.map(usize::from)
 }
 
 /// Writes what each nozzle takes in a subtour of the plan in force: a number for each nozzle, the
@@ -64,6 +59,6 @@ pub fn subtour_line(job: &Job, subtour: u32, out: &mut [u8]) -> Result<usize, Jo
     let count = job.nozzle_count() as usize;
     let mut row = [0; MOST_NOZZLES];
     job.show_subtour(subtour, &mut row[0..count])?;
-    let numbers = numbers_of(&row, count);
+    let numbers = numbers_of(row);
     put_line(b"", &numbers[0..count], out)
 }
