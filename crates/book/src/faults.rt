@@ -5,6 +5,7 @@ ghost use Rattle.book.specs.Faults.{number_of, layer_of, place_of, of_board};
 
 use jobformat::FileFault;
 use network::NetworkFault;
+use refusals::Refusal;
 use sheets::BoardFault;
 
 /// A refusal of the job layer, or one of a lower layer, passed on whole.

@@ -6,9 +6,9 @@ ghost use Rattle.jobformat.specs.Format.{Contents};
 ghost use Rattle.jobformat.specs.Reading.{reading};
 ghost use Rattle.jobfile.specs.Opened.{held};
 ghost use Rattle.jobfile.specs.Seen.{entry_of, name_of};
-ghost use Rattle.inspection.specs.Words.{quantity_text, limit_text, members, mask_text, name_text, fields_text, header_text, record_text, records_text, copy_text, refusal_text, fault_text, report_text};
+ghost use Rattle.inspection.specs.Words.{quantity_text, limit_text, members, mask_text, name_text, fields_text, header_text, record_text, records_text, copy_text, refusal_text, report_text};
 
-use jobfile::{Fields, FileFault, Reader, Record, copy};
+use jobfile::{Fields, FileFault, Reader, Record, Refusal, copy};
 use std::alloc::{AllocError, Global};
 
 fn quantity_text(heap: Global, quantity: Option<u16>) -> Result<String, AllocError>
@@ -105,32 +105,6 @@ fn header_line(heap: Global, types: u8, nozzles: u8) -> Result<String, AllocErro
     format!(in heap; "types {types}, nozzles {nozzles}\n")
 }
 
-fn fault_text(heap: Global, fault: FileFault) -> Result<String, AllocError>
-    ensures { IfOk result (λ s. string_bytes s ≡ fault_text fault) }
-{
-    match fault {
-        FileFault::HeaderRange => {
-            String::from_str(
-                heap,
-                "the header is out of range: 1 to 24 types, 1 to 8 nozzles",
-            )
-        }
-        FileFault::Unwritable { place } => {
-            format!(in heap; "no job file can hold the record behind byte {place}")
-        }
-        FileFault::NoSuchRecord { place } => format!(in heap; "the header has no record {place}"),
-        FileFault::NoRoom { place } => {
-            format!(in heap; "the memory is too small, needed in bytes: {place}")
-        }
-        FileFault::EndsEarly { place } => {
-            format!(in heap; "the file ends too early, length in bytes: {place}")
-        }
-        FileFault::BadByte { place } => {
-            format!(in heap; "no job file has such a byte at index {place}")
-        }
-    }
-}
-
 /// The two lines of a refusal.
 fn refusal_lines(heap: Global, fault: FileFault) -> Result<String, AllocError>
     ensures { IfOk result (λ s. string_bytes s ≡ refusal_text fault) }
@@ -138,8 +112,7 @@ fn refusal_lines(heap: Global, fault: FileFault) -> Result<String, AllocError>
     let number = fault.number();
     let layer = fault.layer();
     let place = fault.place();
-    let words = fault_text(heap, fault)?;
-    format!(in heap; "refused {number} {layer} {place}\n{words}\n")
+    format!(in heap; "refused {number} {layer} {place}\n{fault}\n")
 }
 
 /// Adds the header and the records that a reader has yet to give.

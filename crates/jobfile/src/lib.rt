@@ -11,5 +11,6 @@ mod writing;
 pub use copying::copy;
 pub use jobformat::FileFault;
 pub use reader::Reader;
+pub use refusals::Refusal;
 pub use records::{Fields, Record};
 pub use writer::Writer;

@@ -1,6 +1,6 @@
 // Reading job files, well formed and not.
 use inspection::report;
-use jobfile::{Fields, FileFault, Reader, Record};
+use jobfile::{Fields, FileFault, Reader, Record, Refusal};
 use std::process::Abort;
 use std::test::Fail;
 
