@@ -4,6 +4,11 @@ use Rattle.jobformat.specs.declared.FileFault.{FileFault}
 use Rattle.jobformat.specs.Faults.{number_of, layer_of, place_of, fault_text}
 use Rattle.jobformat.specs.Format.{Entry, Contents}
 
+-- a number that may be missing, by its name, and by what is said where there is none
+abbrev pub figure_text : List ℕ → Option ℕ → List ℕ → List ℕ
+figure_text name (Some n) none = name ++ (codes " " ++ decimal n)
+figure_text name None none = name ++ (codes " " ++ none)
+
 abbrev pub quantity_text : Option ℕ → List ℕ
 quantity_text None = codes "quantity not entered"
 quantity_text (Some n) = codes "quantity " ++ decimal n
