@@ -2,11 +2,12 @@
 #![tactic(auto)]
 
 use inspection::report;
+use jobformat::LONGEST;
 use std::io;
 use std::io::{Read, Write};
 
 /// One byte more than the longest job file has: enough to see that a longer input is none.
-const ENOUGH: u64 = 651;
+const ENOUGH: u64 = LONGEST as u64 + 1;
 
 fn main(rt: HostRuntime) -> io::Result<()> {
     let heap = rt.alloc();

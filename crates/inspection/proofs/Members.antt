@@ -1,5 +1,5 @@
 -- One nozzle more of a mask.
-use Rattle.std.proofs.Common.{◌≡◌, ℕ, ◌+◌, ◌/◌, ◌%◌, ◌^◌, true, false, eqb, List, ◌++◌, codes, decimal, sym, ap, ◌∙◌, append_assoc, append-nil, add-one, eq-eqb}
+use Rattle.std.proofs.Common.{◌≡◌, ℕ, ◌+◌, ◌/◌, ◌%◌, ◌^◌, true, false, eqb, ◌++◌, codes, decimal, sym, ap, ◌∙◌, append-nil, add-one, eq-eqb}
 use lib.Bits.{bit_and, and_mask}
 use Rattle.std.proofs.lemmas.Bool.{ne_eqb}
 use Rattle.inspection.specs.Words.{members}
@@ -13,6 +13,3 @@ pub member_off : (m n : ℕ) → (bit_and (m / 2 ^ n) 1 ≡ 1 → ⊥) → membe
 member_off m n h =
     let off : eqb (m / 2 ^ n % 2) 1 ≡ false = ne_eqb _ 1 (λ e. h (and_mask (m / 2 ^ n) 1 ∙ e)) in
     ap (members m) (add-one n) ∙ rw off (append-nil (members m n))
-
-pub members_more : (t t' word : List ℕ) (m n : ℕ) → t ≡ codes "nozzles" ++ members m n → t' ≡ t ++ word → word ≡ codes " " ++ decimal (n + 1) → bit_and (m / 2 ^ n) 1 ≡ 1 → t' ≡ codes "nozzles" ++ members m (n + 1)
-members_more t t' word m n p q e h = q ∙ rw (p, e, member_on m n h) (append_assoc (codes "nozzles") (members m n) (codes " " ++ decimal (n + 1)))

@@ -1,9 +1,13 @@
 -- The words in which a job file, or its fault, is told to a setter.
 use Rattle.std.specs.Prelude.{ℕ, zero, suc, ◌+◌, ◌/◌, ◌%◌, ◌^◌, cond, List, [], ◌∷◌, ◌++◌, Some, None, Ok, Err, codes, decimal, Option, Result, ◌==◌}
 use Rattle.jobformat.specs.declared.FileFault.{FileFault}
-use Rattle.jobformat.specs.declared.FileFault.TheVariants.{HeaderRange, Unwritable, NoSuchRecord, NoRoom, EndsEarly, BadByte}
-use Rattle.jobformat.specs.Faults.{number_of, layer_of, place_of}
+use Rattle.jobformat.specs.Faults.{number_of, layer_of, place_of, fault_text}
 use Rattle.jobformat.specs.Format.{Entry, Contents}
+
+-- a number that may be missing, by its name, and by what is said where there is none
+abbrev pub figure_text : List ℕ → Option ℕ → List ℕ → List ℕ
+figure_text name (Some n) none = name ++ (codes " " ++ decimal n)
+figure_text name None none = name ++ (codes " " ++ none)
 
 abbrev pub quantity_text : Option ℕ → List ℕ
 quantity_text None = codes "quantity not entered"
@@ -47,15 +51,7 @@ records_text i (e ∷ es) = record_text i e ++ records_text (i + 1) es
 abbrev pub copy_text : ℕ → List ℕ
 copy_text n = codes "written again: " ++ (decimal n ++ codes " bytes, the same\n")
 
--- what is wrong, and where
-abbrev pub fault_text : FileFault → List ℕ
-fault_text HeaderRange = codes "the header is out of range: 1 to 24 types, 1 to 8 nozzles"
-fault_text (Unwritable p) = codes "no job file can hold the record behind byte " ++ decimal p
-fault_text (NoSuchRecord p) = codes "the header has no record " ++ decimal p
-fault_text (NoRoom p) = codes "the memory is too small, needed in bytes: " ++ decimal p
-fault_text (EndsEarly p) = codes "the file ends too early, length in bytes: " ++ decimal p
-fault_text (BadByte p) = codes "no job file has such a byte at index " ++ decimal p
-
+-- the two lines of a refusal
 abbrev pub refusal_text : FileFault → List ℕ
 refusal_text f =
     codes "refused " ++ (decimal (number_of f) ++ (codes " " ++ (decimal (layer_of f) ++ (codes " " ++ (decimal (place_of f) ++ (codes "\n" ++ (fault_text f ++ codes "\n")))))))

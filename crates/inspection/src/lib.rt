@@ -1,73 +1,109 @@
 // A job file told in words that a setter understands.
 #![tactic(auto)]
 
-ghost use Rattle.std.specs.Prelude.{◌≡◌, ◌≤◌, true, ◌++◌, length, IfOk, Ok, string_bytes, codes, OnOk};
+ghost use Rattle.std.specs.Prelude.{◌≡◌, ◌≤◌, true, Some, ◌++◌, length, IfSome, IfOk, Ok, OnOk};
 ghost use Rattle.jobformat.specs.Format.{Contents};
 ghost use Rattle.jobformat.specs.Reading.{reading};
 ghost use Rattle.jobfile.specs.Opened.{held};
 ghost use Rattle.jobfile.specs.Seen.{entry_of, name_of};
-ghost use Rattle.inspection.specs.Words.{quantity_text, limit_text, members, mask_text, name_text, fields_text, header_text, record_text, records_text, copy_text, refusal_text, fault_text, report_text};
+ghost use Rattle.inspection.specs.Words.{figure_text, mask_text, name_text, fields_text, header_text, record_text, records_text, copy_text, refusal_text, report_text};
 
-use jobfile::{Fields, FileFault, Reader, Record, copy};
+use jobfile::{FileFault, Reader, Record, Refusal, TypeRecord, copy};
+use jobformat::MOST_TYPES;
 use std::alloc::{AllocError, Global};
+use std::fmt;
 
-fn quantity_text(heap: Global, quantity: Option<u16>) -> Result<String, AllocError>
-    ensures { IfOk result (λ s. string_bytes s ≡ quantity_text quantity) }
-{
-    match quantity {
-        Some(n) => format!(in heap; "quantity {n}"),
-        None => String::from_str(heap, "quantity not entered"),
-    }
+/// A number that may be missing: what it is called, and what is said where there is none.
+#[derive(Clone, Copy)]
+struct Figure {
+    name: &'static str,
+    number: Option<u16>,
+    none: &'static str,
 }
 
-fn limit_text(heap: Global, limit: Option<u16>) -> Result<String, AllocError>
-    ensures { IfOk result (λ s. string_bytes s ≡ limit_text limit) }
-{
-    match limit {
-        Some(n) => format!(in heap; "limit {n}"),
-        None => String::from_str(heap, "limit none"),
+impl fmt::Display for Figure {
+    ghost output = { λ f. Some (figure_text f.name.now f.number f.none.now) };
+
+    fn fmt<W: fmt::Write>(&self, f: &mut fmt::Formatter<W>) -> fmt::Result {
+        let name = self.name;
+        let none = self.none;
+        match self.number {
+            Some(n) => write!(f, "{name} {n}"),
+            None => write!(f, "{name} {none}"),
+        }
     }
 }
 
 /// The nozzles of a mask, in order.
-fn members_text(heap: Global, mask: u8) -> Result<String, AllocError>
-    ensures { IfOk result (λ s. string_bytes s ≡ codes "nozzles" ++ members mask 8) }
-{
-    let mut text = String::from_str(heap, "nozzles")?;
-    for j in 0..8u8 {
-        if (mask >> j) & 1 == 1 {
-            let nozzle = j + 1;
-            let word = format!(in heap; " {nozzle}")?;
-            text.push_str(word.as_str())?;
-        }
-    }
-    Ok(text)
-}
+#[derive(Clone, Copy)]
+struct Mask(Option<u8>);
 
-fn mask_text(heap: Global, mask: Option<u8>) -> Result<String, AllocError>
-    ensures { IfOk result (λ s. string_bytes s ≡ mask_text mask) }
-{
-    match mask {
-        Some(0) => String::from_str(heap, "no nozzle"),
-        Some(mask) => members_text(heap, mask),
-        None => String::from_str(heap, "nozzles not entered"),
+impl fmt::Display for Mask {
+    ghost output = { λ m. Some (mask_text m.0) };
+
+    fn fmt<W: fmt::Write>(&self, f: &mut fmt::Formatter<W>) -> fmt::Result {
+        match self.0 {
+            None => f.write_str("nozzles not entered"),
+            Some(0) => f.write_str("no nozzle"),
+            Some(mask) => {
+                f.write_str("nozzles")?;
+                for j in 0..8u8 {
+                    if (mask >> j) & 1 == 1 {
+                        let nozzle = j + 1;
+                        write!(f, " {nozzle}")?;
+                    }
+                }
+                Ok(())
+            }
+        }
     }
 }
 
 /// What a record holds beside its name, up to the line's end.
-fn fields_text(heap: Global, fields: Fields) -> Result<String, AllocError>
-    ensures { IfOk result (λ s. string_bytes s ≡ fields_text fields.quantity fields.mask fields.limit) }
-{
-    let quantity = quantity_text(heap, fields.quantity)?;
-    let mask = mask_text(heap, fields.mask)?;
-    let limit = limit_text(heap, fields.limit)?;
-    format!(in heap; ": {quantity}, {mask}, {limit}\n")
+#[derive(Clone, Copy)]
+struct Entered(TypeRecord);
+
+impl fmt::Display for Entered {
+    ghost output = { λ r. Some (fields_text r.0.quantity r.0.mask r.0.limit) };
+
+    fn fmt<W: fmt::Write>(&self, f: &mut fmt::Formatter<W>) -> fmt::Result {
+        let quantity = Figure {
+            name: "quantity",
+            number: self.0.quantity,
+            none: "not entered",
+        };
+        let mask = Mask(self.0.mask);
+        let limit = Figure {
+            name: "limit",
+            number: self.0.limit,
+            none: "none",
+        };
+        write!(f, ": {quantity}, {mask}, {limit}\n")
+    }
 }
 
-fn add(more: &[u8], text: &mut Vec<u8>) -> Result<(), AllocError>
-    ensures { OnOk result (text.new.items ≡ text.old.items ++ more.now) }
+/// The two lines of a refusal.
+#[derive(Clone, Copy)]
+struct Refused(FileFault);
+
+impl fmt::Display for Refused {
+    ghost output = { λ r. Some (refusal_text r.0) };
+
+    fn fmt<W: fmt::Write>(&self, f: &mut fmt::Formatter<W>) -> fmt::Result {
+        let fault = self.0;
+        let number = fault.number();
+        let layer = fault.layer();
+        let place = fault.place();
+        write!(f, "refused {number} {layer} {place}\n{fault}\n")
+    }
+}
+
+/// Adds what is told behind the text so far.
+fn add<D: fmt::Display + Drop>(heap: Global, told: D, text: &mut Vec<u8>) -> Result<(), AllocError>
+    ensures { IfSome (D.output told) (λ bs. OnOk result (text.new.items ≡ text.old.items ++ bs)) }
 {
-    text.extend_from_slice(more)
+    let told = told.to_string(heap)?;
+    text.extend_from_slice(told.as_bytes())
 }
 
 /// Adds the name of a record, if it has one, behind a space.
@@ -75,8 +111,8 @@ fn add_name(record: Record<'_>, text: &mut Vec<u8>) -> Result<(), AllocError>
     ensures { OnOk result (text.new.items ≡ text.old.items ++ name_text (name_of «record».entry)) }
 {
     if let Record::Named { name, .. } = record {
-        add(b" ", text)?;
-        add(name, text)?;
+        text.push(b' ')?;
+        text.extend_from_slice(name)?;
     }
     Ok(())
 }
@@ -90,56 +126,9 @@ fn add_record(
 ) -> Result<(), AllocError>
     ensures { OnOk result (text.new.items ≡ text.old.items ++ record_text number (entry_of «record».entry)) }
 {
-    let start = format!(in heap; "type {number}")?;
-    let rest = fields_text(heap, record.fields())?;
-    add(start.as_bytes(), text)?;
+    add(heap, format_args!("type {number}"), text)?;
     add_name(record, text)?;
-    add(rest.as_bytes(), text)?;
-    Ok(())
-}
-
-/// The line of the header.
-fn header_line(heap: Global, types: u8, nozzles: u8) -> Result<String, AllocError>
-    ensures { IfOk result (λ s. string_bytes s ≡ header_text types nozzles) }
-{
-    format!(in heap; "types {types}, nozzles {nozzles}\n")
-}
-
-fn fault_text(heap: Global, fault: FileFault) -> Result<String, AllocError>
-    ensures { IfOk result (λ s. string_bytes s ≡ fault_text fault) }
-{
-    match fault {
-        FileFault::HeaderRange => {
-            String::from_str(
-                heap,
-                "the header is out of range: 1 to 24 types, 1 to 8 nozzles",
-            )
-        }
-        FileFault::Unwritable { place } => {
-            format!(in heap; "no job file can hold the record behind byte {place}")
-        }
-        FileFault::NoSuchRecord { place } => format!(in heap; "the header has no record {place}"),
-        FileFault::NoRoom { place } => {
-            format!(in heap; "the memory is too small, needed in bytes: {place}")
-        }
-        FileFault::EndsEarly { place } => {
-            format!(in heap; "the file ends too early, length in bytes: {place}")
-        }
-        FileFault::BadByte { place } => {
-            format!(in heap; "no job file has such a byte at index {place}")
-        }
-    }
-}
-
-/// The two lines of a refusal.
-fn refusal_lines(heap: Global, fault: FileFault) -> Result<String, AllocError>
-    ensures { IfOk result (λ s. string_bytes s ≡ refusal_text fault) }
-{
-    let number = fault.number();
-    let layer = fault.layer();
-    let place = fault.place();
-    let words = fault_text(heap, fault)?;
-    format!(in heap; "refused {number} {layer} {place}\n{words}\n")
+    add(heap, Entered(record.fields()), text)
 }
 
 /// Adds the header and the records that a reader has yet to give.
@@ -147,13 +136,15 @@ fn add_contents(heap: Global, reader: Reader<'_>, text: &mut Vec<u8>) -> Result<
     requires { length (held reader) ≤ 24 }
     ensures { OnOk result (text.new.items ≡ text.old.items ++ (header_text reader.entry.types reader.entry.nozzles ++ records_text 1 (held reader.entry))) }
 {
-    let header = header_line(heap, reader.types(), reader.nozzles())?;
-    add(header.as_bytes(), text)?;
-    let mut rest = reader;
-    let mut number = 1;
-    while let Some(record) = rest.next() {
+    let types = reader.types();
+    let nozzles = reader.nozzles();
+    add(
+        heap,
+        format_args!("types {types}, nozzles {nozzles}\n"),
+        text,
+    )?;
+    for (number, record) in (1..MOST_TYPES + 1).zip(reader) {
         add_record(heap, number, record, text)?;
-        number += 1;
     }
     Ok(())
 }
@@ -162,10 +153,7 @@ fn add_contents(heap: Global, reader: Reader<'_>, text: &mut Vec<u8>) -> Result<
 fn is_same_again(bytes: &[u8], memory: &mut [u8]) -> bool
     ensures { (c : Contents) → reading bytes.now ≡ Ok c → length memory.old ≡ length bytes.now → result ≡ true }
 {
-    match copy(bytes, memory) {
-        Ok(_) => *memory == *bytes,
-        Err(_) => false,
-    }
+    copy(bytes, memory).is_ok() && *memory == *bytes
 }
 
 /// Adds the line that says that the file was written again.
@@ -174,14 +162,19 @@ fn add_copy(heap: Global, bytes: &[u8], text: &mut Vec<u8>) -> Result<(), AllocE
 {
     let count = bytes.len();
     let mut memory = vec![in heap; 0u8; count]?;
-    let is_same = is_same_again(bytes, memory.as_mut_slice());
-    let line = if is_same {
-        format!(in heap; "written again: {count} bytes, the same\n")?
+    if is_same_again(bytes, memory.as_mut_slice()) {
+        add(
+            heap,
+            format_args!("written again: {count} bytes, the same\n"),
+            text,
+        )
     } else {
-        format!(in heap; "written again: {count} bytes, not the same\n")?
-    };
-    add(line.as_bytes(), text)?;
-    Ok(())
+        add(
+            heap,
+            format_args!("written again: {count} bytes, not the same\n"),
+            text,
+        )
+    }
 }
 
 /// All that is told of a file: a line for the header, one for each record and one for the copy, or
@@ -195,10 +188,7 @@ pub fn report(heap: Global, bytes: &[u8]) -> Result<Vec<u8>, AllocError>
             add_contents(heap, reader, &mut text)?;
             add_copy(heap, bytes, &mut text)?;
         }
-        Err(fault) => {
-            let lines = refusal_lines(heap, fault)?;
-            add(lines.as_bytes(), &mut text)?;
-        }
+        Err(fault) => add(heap, Refused(fault), &mut text)?,
     }
     Ok(text)
 }

@@ -3,8 +3,8 @@ use Rattle.std.proofs.Common.{◌≡◌, ℕ, ◌+◌, ◌≤◌, List, [], ◌�
 use lib.Seq.{paste}
 use Rattle.std.proofs.lemmas.List.Edits.{paste_none, paste-paste, take-paste, length-paste}
 use Rattle.std.proofs.lemmas.List.{flat_map_more}
-use Rattle.jobfile.specs.declared.records.Fields.{Fields}
-use Rattle.jobfile.specs.declared.records.Record.{Record}
+use Rattle.records.specs.declared.TypeRecord.{TypeRecord}
+use Rattle.jobfile.specs.declared.entry.Record.{Record}
 use Rattle.jobformat.specs.Format.{Entry, number_bytes, mask_bytes, map_of, encode, Fine, AllFine}
 use Rattle.jobfile.specs.Writes.{over, Wrote}
 use Rattle.jobfile.specs.declared.writer.Writer.{Writer}
@@ -28,10 +28,10 @@ bare_list m q k l = simp (append_assoc, append-nil)
 pub named_list : (m c : ℕ) (q k l n : List ℕ) → (((((m ∷ []) ++ q) ++ k) ++ l) ++ (c ∷ [])) ++ n ≡ m ∷ (q ++ (k ++ (l ++ (c ∷ n))))
 named_list m c q k l n = simp append_assoc
 
-pub bare_bytes : (e : Record) (f : Fields) (m : ℕ) → name_of e ≡ None → f ≡ fields_of e → m ≡ map_of (entry_of e) → (((m ∷ []) ++ number_bytes f.quantity) ++ mask_bytes f.mask) ++ number_bytes f.limit ≡ encode (entry_of e)
+pub bare_bytes : (e : Record) (f : TypeRecord) (m : ℕ) → name_of e ≡ None → f ≡ fields_of e → m ≡ map_of (entry_of e) → (((m ∷ []) ++ number_bytes f.quantity) ++ mask_bytes f.mask) ++ number_bytes f.limit ≡ encode (entry_of e)
 bare_bytes e f m is p q = bare_list m (number_bytes f.quantity) (mask_bytes f.mask) (number_bytes f.limit) ∙ rw (q, p, is)
 
-pub named_bytes : (e : Record) (f : Fields) (m : ℕ) (n : List ℕ) → name_of e ≡ Some n → f ≡ fields_of e → m ≡ map_of (entry_of e) → (((((m ∷ []) ++ number_bytes f.quantity) ++ mask_bytes f.mask) ++ number_bytes f.limit) ++ (length n ∷ [])) ++ n ≡ encode (entry_of e)
+pub named_bytes : (e : Record) (f : TypeRecord) (m : ℕ) (n : List ℕ) → name_of e ≡ Some n → f ≡ fields_of e → m ≡ map_of (entry_of e) → (((((m ∷ []) ++ number_bytes f.quantity) ++ mask_bytes f.mask) ++ number_bytes f.limit) ++ (length n ∷ [])) ++ n ≡ encode (entry_of e)
 named_bytes e f m n is p q = named_list m (length n) (number_bytes f.quantity) (mask_bytes f.mask) (number_bytes f.limit) n ∙ rw (q, p, is)
 
 fine_more : (r : ℕ) (es : List Entry) (e : Entry) → AllFine r es → Fine r e → AllFine r (es ++ e ∷ [])

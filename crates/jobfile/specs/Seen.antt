@@ -3,9 +3,9 @@ use Rattle.std.specs.Prelude.{ℕ, List, Some, None, Ok, Err, Option, Result}
 use Rattle.std.specs.Borrow.{Bor}
 use Rattle.jobfile.specs.declared.parsing.Stop.{Stop}
 use Rattle.jobfile.specs.declared.parsing.Stop.TheVariants.{Short, Bad}
-use Rattle.jobfile.specs.declared.records.Fields.{Fields}
-use Rattle.jobfile.specs.declared.records.Record.{Record}
-use Rattle.jobfile.specs.declared.records.Record.TheVariants.{Named, Bare}
+use Rattle.records.specs.declared.TypeRecord.{TypeRecord}
+use Rattle.jobfile.specs.declared.entry.Record.{Record}
+use Rattle.jobfile.specs.declared.entry.Record.TheVariants.{Named, Bare}
 use Rattle.jobformat.specs.Reading.{Parse, got, short, bad}
 use Rattle.jobformat.specs.Format.{Entry}
 
@@ -21,10 +21,10 @@ abbrev pub seen_name : Result (Bor (List ℕ) × Bor (List ℕ)) Stop → Parse 
 seen_name (Ok p) = got p.0.now p.1.now
 seen_name (Err e) = stopped e
 
-abbrev pub entry_with : Fields → Option (List ℕ) → Entry
+abbrev pub entry_with : TypeRecord → Option (List ℕ) → Entry
 entry_with f n = record { quantity = f.quantity; mask = f.mask; limit = f.limit; name = n }
 
-abbrev pub fields_of : Record → Fields
+abbrev pub fields_of : Record → TypeRecord
 fields_of (Named n f) = f
 fields_of (Bare f) = f
 

@@ -1,5 +1,5 @@
 -- What is written into lent memory, and what forbids it.
-use Rattle.std.specs.Prelude.{◌≡◌, ℕ, ◌+◌, cond, ◌&&◌, List, length, Some, None, Ok, Err, Option, Result, nat_le, nat_lt}
+use Rattle.std.specs.Prelude.{◌≡◌, ℕ, ◌+◌, cond, ◌&&◌, List, [], length, Some, None, Ok, Err, Option, Result, nat_le, nat_lt}
 use Rattle.std.proofs.Math.Seq.{paste}
 use Rattle.jobformat.specs.declared.FileFault.{FileFault}
 use Rattle.jobformat.specs.declared.FileFault.TheVariants.{HeaderRange, Unwritable, NoSuchRecord, NoRoom}
@@ -13,6 +13,11 @@ over out at bs = paste out at bs (length bs)
 pub record Wrote (d : List ℕ) (at : ℕ) (bs d' : List ℕ) (at' : ℕ) : Type 0 where
   pub out : d' ≡ over d at bs
   pub end : at' ≡ at + length bs
+
+-- the bytes of a field, if there is one
+abbrev pub field_bytes : Option (List ℕ) → List ℕ
+field_bytes None = []
+field_bytes (Some bs) = bs
 
 -- the fault of a refusal
 abbrev pub err_of : {X : Type 0} → Result X FileFault → Option FileFault

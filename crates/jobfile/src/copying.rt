@@ -12,12 +12,12 @@ pub fn copy(bytes: &[u8], out: &mut [u8]) -> Result<usize, FileFault>
     ensures answer { result ≡ copied (length bytes.now) (length out.old) (reading bytes.now) }
     ensures out { out.new ≡ (if is_ok result then over out.old 0 bytes.now else out.old) }
 {
-    let mut reader = Reader::open(bytes)?;
+    let reader = Reader::open(bytes)?;
     if out.len() < bytes.len() {
         return Err(FileFault::NoRoom { place: bytes.len() });
     }
     let mut writer = Writer::open(reader.types(), reader.nozzles(), out)?;
-    while let Some(record) = reader.next() {
+    for record in reader {
         writer.put(record, out)?;
     }
     writer.finish()

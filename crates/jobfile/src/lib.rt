@@ -2,14 +2,16 @@
 #![tactic(auto)]
 
 mod copying;
+mod entry;
 mod parsing;
 mod reader;
-mod records;
 mod writer;
 mod writing;
 
 pub use copying::copy;
+pub use entry::Record;
 pub use jobformat::FileFault;
 pub use reader::Reader;
-pub use records::{Fields, Record};
+pub use records::TypeRecord;
+pub use refusals::Refusal;
 pub use writer::Writer;

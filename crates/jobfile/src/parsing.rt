@@ -1,10 +1,11 @@
 // Reading the front of a job file, field by field.
 ghost use Rattle.std.specs.Prelude.{◌≡◌, ◌^◌, nat_lt};
 ghost use Rattle.jobformat.specs.Format.{graphic};
-ghost use Rattle.jobformat.specs.Reading.{number, number_if, mask, mask_if, graphics, name, is_map, entry, records, header, forget};
+ghost use Rattle.jobformat.specs.Reading.{Parse, number, mask, field_if, graphics, name, is_map, entry, records, header, forget};
 ghost use Rattle.jobfile.specs.Seen.{seen, seen_name, seen_record, seen_rest};
 
-use super::{Fields, Record};
+use super::{Record, TypeRecord};
+use jobformat::{MOST_NOZZLES, MOST_TYPES};
 
 /// Why reading stops: the bytes end, or one is wrong, with how many there are from it on.
 #[derive(Clone, Copy)]
@@ -28,17 +29,25 @@ pub(crate) fn number(bytes: &[u8]) -> Result<(u16, &[u8]), Stop>
     let [low, high, rest @ ..] = bytes else {
         return Err(Stop::Short);
     };
-    Ok((u16::from(*low) + 256 * u16::from(*high), rest))
+    Ok((u16::from_le_bytes([*low, *high]), rest))
 }
 
-pub(crate) fn number_if(present: bool, bytes: &[u8]) -> Result<(Option<u16>, &[u8]), Stop>
-    ensures { seen result ≡ number_if present bytes.now }
+/// A field that may be left out: what `read` reads, where it is there, and what follows it.
+pub(crate) fn field_if<'a, X, F>(
+    present: bool,
+    bytes: &'a [u8],
+    read: F,
+) -> Result<(Option<X>, &'a [u8]), Stop>
+where
+    F: FnOnce(&'a [u8]) -> Result<(X, &'a [u8]), Stop>,
+    requires { F.IsAlwaysCallable read }
+    ensures { (p : Parse X) → ((r : _) → F.post read bytes.entry r → seen r ≡ p) → seen result ≡ field_if present p bytes.now }
 {
     if !present {
         return Ok((None, bytes));
     }
-    let (n, rest) = number(bytes)?;
-    Ok((Some(n), rest))
+    let (x, rest) = read(bytes)?;
+    Ok((Some(x), rest))
 }
 
 /// Whether each bit of a mask stands for a nozzle that is there.
@@ -58,17 +67,6 @@ pub(crate) fn mask(bytes: &[u8], nozzles: u8) -> Result<(u8, &[u8]), Stop>
     }
 }
 
-pub(crate) fn mask_if(present: bool, bytes: &[u8], nozzles: u8) -> Result<(Option<u8>, &[u8]), Stop>
-    ensures { seen result ≡ mask_if present nozzles bytes.now }
-{
-    if present {
-        let (m, rest) = mask(bytes, nozzles)?;
-        Ok((Some(m), rest))
-    } else {
-        Ok((None, bytes))
-    }
-}
-
 pub(crate) fn is_graphic(byte: u8) -> bool
     ensures { result ≡ graphic byte }
 {
@@ -79,18 +77,10 @@ pub(crate) fn is_graphic(byte: u8) -> bool
 pub(crate) fn graphics(bytes: &[u8], n: usize) -> Result<(&[u8], &[u8]), Stop>
     ensures { seen_name result ≡ graphics bytes.now n }
 {
-    for (i, byte) in bytes.iter().enumerate() {
-        if i == n {
-            break;
-        }
-        if !is_graphic(*byte) {
-            return Err(Stop::Bad(bytes.len() - i));
-        }
+    if let Some(i) = bytes.iter().take(n).position(|byte| !is_graphic(*byte)) {
+        return Err(Stop::Bad(bytes.len() - i));
     }
-    if bytes.len() < n {
-        return Err(Stop::Short);
-    }
-    Ok(bytes.split_at(n))
+    bytes.split_at_checked(n).ok_or(Stop::Short)
 }
 
 pub(crate) fn name(bytes: &[u8]) -> Result<(&[u8], &[u8]), Stop>
@@ -120,10 +110,10 @@ pub(crate) fn read_record(bytes: &[u8], nozzles: u8) -> Result<(Record<'_>, &[u8
     if !is_map(*map) {
         return Err(Stop::Bad(bytes.len()));
     }
-    let (quantity, rest) = number_if(*map & QUANTITY != 0, rest)?;
-    let (mask, rest) = mask_if(*map & MASK != 0, rest, nozzles)?;
-    let (limit, rest) = number_if(*map & LIMIT != 0, rest)?;
-    let fields = Fields {
+    let (quantity, rest) = field_if(*map & QUANTITY != 0, rest, number)?;
+    let (mask, rest) = field_if(*map & MASK != 0, rest, |bytes| mask(bytes, nozzles))?;
+    let (limit, rest) = field_if(*map & LIMIT != 0, rest, number)?;
+    let fields = TypeRecord {
         quantity,
         mask,
         limit,
@@ -140,9 +130,13 @@ pub(crate) fn header(bytes: &[u8]) -> Result<((u8, u8), &[u8]), Stop>
     ensures { seen result ≡ header bytes.now }
 {
     match bytes {
-        [] | [1..=24] => Err(Stop::Short),
-        [types @ 1..=24, nozzles @ 1..=8, body @ ..] => Ok(((*types, *nozzles), body)),
-        [1..=24, rest @ ..] => Err(Stop::Bad(rest.len())),
+        [] | [1..=MOST_TYPES] => Err(Stop::Short),
+        [
+            types @ 1..=MOST_TYPES,
+            nozzles @ 1..=MOST_NOZZLES,
+            body @ ..,
+        ] => { Ok(((*types, *nozzles), body)) }
+        [1..=MOST_TYPES, rest @ ..] => Err(Stop::Bad(rest.len())),
         _ => Err(Stop::Bad(bytes.len())),
     }
 }
@@ -152,9 +146,8 @@ pub(crate) fn skip_records(bytes: &[u8], nozzles: u8, count: u8) -> Result<&[u8]
     ensures { seen_rest result ≡ forget (records nozzles count bytes.now) }
 {
     let mut rest = bytes;
-    for i in 0..count {
-        let (_, after) = read_record(rest, nozzles)?;
-        rest = after;
+    for _ in 0..count {
+        (_, rest) = read_record(rest, nozzles)?;
     }
     Ok(rest)
 }

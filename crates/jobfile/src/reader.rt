@@ -1,5 +1,6 @@
 // Reading a job file in place: opening checks the whole file, and the records come one by one.
-ghost use Rattle.std.specs.Prelude.{◌≡◌, [], ◌∷◌, Ok, MatchOption};
+ghost use Rattle.std.specs.Prelude.{◌≡◌, Ok, ⊤};
+ghost use Rattle.std.specs.Iterator.{YieldsFirstBy, MakesProgress, item_count};
 ghost use Rattle.jobformat.specs.Format.{Contents, FileOf, Answers};
 ghost use Rattle.jobformat.specs.Reading.{file, reading};
 ghost use Rattle.jobfile.specs.Seen.{entry_of};
@@ -62,12 +63,21 @@ impl<'a> Reader<'a> {
     {
         self.nozzles
     }
+}
+
+impl<'a> Iterator for Reader<'a> {
+    type Item = Record<'a>;
+
+    ghost next_gives = { YieldsFirstBy entry_of held };
+
+    ghost remaining = { item_count held };
 
     /// The next record of the file, in its order, and none after the last.
-    pub fn next(&mut self) -> Option<Record<'a>>
+    fn next(&mut self) -> Option<Record<'a>>
         ensures types { self.new.types ≡ self.old.types }
         ensures nozzles { self.new.nozzles ≡ self.old.nozzles }
-        ensures record { MatchOption result ((held self.old ≡ []) × (held self.new ≡ [])) (λ e. held self.old ≡ entry_of e ∷ held self.new) }
+        ensures steps { YieldsFirstBy entry_of held self.old result self.new }
+        ensures goes { MakesProgress (λ r. ⊤) (item_count held) self.old result self.new }
     {
         let Reader {
             nozzles,

@@ -1,21 +1,21 @@
-// Writing the bytes of a record into lent memory.
-ghost use Rattle.std.specs.Prelude.{◌≡◌, ◌+◌, ◌≤◌, true, length};
+// The bytes of a record, and writing bytes into lent memory.
+ghost use Rattle.std.specs.Prelude.{◌≡◌, ◌+◌, ◌≤◌, ◌++◌, true, length};
+ghost use Rattle.arrayvec.specs.ArrayVec.{array_vec_len};
 ghost use Rattle.jobformat.specs.Format.{number_bytes, mask_bytes, map_of, encode, all_graphic, name_fits, fits, TwoBytes};
 ghost use Rattle.jobfile.specs.Seen.{entry_of, name_of};
-ghost use Rattle.jobfile.specs.Writes.{over, Wrote};
+ghost use Rattle.jobfile.specs.Writes.{Wrote, field_bytes};
 
 use super::Record;
 use super::parsing::{LIMIT, MASK, NAME, QUANTITY, is_graphic, is_mask};
+use arrayvec::ArrayVec;
+
+/// The most bytes that a record takes.
+pub(crate) const LONGEST_RECORD: usize = 27;
 
 pub(crate) fn all_graphic(name: &[u8]) -> bool
     ensures { result ≡ all_graphic name.now }
 {
-    for byte in name {
-        if !is_graphic(*byte) {
-            return false;
-        }
-    }
-    true
+    name.iter().all(|byte| is_graphic(*byte))
 }
 
 /// Whether a file with so many nozzles can hold the record.
@@ -28,7 +28,7 @@ pub(crate) fn is_record(entry: Record<'_>, nozzles: u8) -> bool
         None => fields.limit.is_none(),
     };
     let named = match entry {
-        Record::Named { name, .. } => 1 <= name.len() && name.len() <= 20 && all_graphic(name),
+        Record::Named { name, .. } => (1..=20).contains(&name.len()) && all_graphic(name),
         Record::Bare { .. } => true,
     };
     masked && named
@@ -42,27 +42,6 @@ pub(crate) fn write(bytes: &[u8], out: &mut [u8], at: usize) -> usize
     let end = at + bytes.len();
     out[at..end].copy_from_slice(bytes);
     end
-}
-
-pub(crate) fn write_number(n: Option<u16>, out: &mut [u8], at: usize) -> usize
-    requires { at + length (number_bytes n) ≤ length out.old }
-    ensures wrote { Wrote out.old at (number_bytes n) out.new result }
-    ensures small { TwoBytes n }
-{
-    match n {
-        Some(n) => write(&[(n % 256) as u8, (n / 256) as u8], out, at),
-        None => at,
-    }
-}
-
-pub(crate) fn write_mask(mask: Option<u8>, out: &mut [u8], at: usize) -> usize
-    requires { at + length (mask_bytes mask) ≤ length out.old }
-    ensures { Wrote out.old at (mask_bytes mask) out.new result }
-{
-    match mask {
-        Some(mask) => write(&[mask], out, at),
-        None => at,
-    }
 }
 
 pub(crate) fn map_byte(entry: Record<'_>) -> u8
@@ -85,42 +64,53 @@ pub(crate) fn map_byte(entry: Record<'_>) -> u8
     map
 }
 
-/// How many bytes a record takes.
-pub(crate) fn size(entry: Record<'_>) -> usize
-    requires { name_fits (name_of entry) ≡ true }
-    ensures is { result ≡ length (encode (entry_of entry.entry)) }
-    ensures small { result ≤ 27 }
+/// A number of two bytes, the low one first.
+fn number_field(n: Option<u16>) -> Option<[u8; 2]>
+    ensures bytes { field_bytes result ≡ number_bytes n }
+    ensures small { TwoBytes n }
 {
-    let fields = entry.fields();
-    let mut size = 1;
-    if fields.quantity.is_some() {
-        size += 2;
-    }
-    if fields.mask.is_some() {
-        size += 1;
-    }
-    if fields.limit.is_some() {
-        size += 2;
-    }
-    if let Record::Named { name, .. } = entry {
-        size += 1 + name.len();
-    }
-    size
+    n.map(u16::to_le_bytes)
 }
 
-pub(crate) fn write_record(entry: Record<'_>, out: &mut [u8], at: usize)
-    requires named { name_fits (name_of entry) ≡ true }
-    requires room { at + length (encode (entry_of entry)) ≤ length out.old }
-    ensures out { out.new ≡ over out.old at (encode (entry_of entry.entry)) }
+fn mask_field(mask: Option<u8>) -> Option<[u8; 1]>
+    ensures { field_bytes result ≡ mask_bytes mask }
+{
+    mask.map(u8::to_le_bytes)
+}
+
+/// Adds a field, if there is one, behind the others.
+fn add_field<const N: usize>(field: Option<[u8; N]>, bytes: &mut ArrayVec<u8, LONGEST_RECORD>)
+    requires { array_vec_len bytes.old + N ≤ 27 }
+    ensures added { bytes.new.items ≡ bytes.old.items ++ field_bytes field.entry }
+    ensures len { array_vec_len bytes.new ≤ array_vec_len bytes.old + N }
+{
+    if let Some(field) = field {
+        add(&field, bytes);
+    }
+}
+
+fn add(more: &[u8], bytes: &mut ArrayVec<u8, LONGEST_RECORD>)
+    requires { array_vec_len bytes.old + length more.now ≤ 27 }
+    ensures { bytes.new.items ≡ bytes.old.items ++ more.now }
+{
+    bytes.try_extend_from_slice(more).unwrap()
+}
+
+/// The bytes of a record.
+pub(crate) fn record_bytes(entry: Record<'_>) -> ArrayVec<u8, LONGEST_RECORD>
+    requires { name_fits (name_of entry) ≡ true }
+    ensures bytes { result.items ≡ encode (entry_of entry.entry) }
     ensures small { TwoBytes (entry_of entry.entry).quantity × TwoBytes (entry_of entry.entry).limit }
 {
     let fields = entry.fields();
-    let at = write(&[map_byte(entry)], out, at);
-    let at = write_number(fields.quantity, out, at);
-    let at = write_mask(fields.mask, out, at);
-    let at = write_number(fields.limit, out, at);
+    let mut bytes = ArrayVec::new();
+    bytes.push(map_byte(entry));
+    add_field(number_field(fields.quantity), &mut bytes);
+    add_field(mask_field(fields.mask), &mut bytes);
+    add_field(number_field(fields.limit), &mut bytes);
     if let Record::Named { name, .. } = entry {
-        let at = write(&[name.len() as u8], out, at);
-        write(name, out, at);
+        bytes.push(name.len() as u8);
+        add(name, &mut bytes);
     }
+    bytes
 }

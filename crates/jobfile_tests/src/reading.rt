@@ -1,6 +1,6 @@
 // Reading job files, well formed and not.
 use inspection::report;
-use jobfile::{Fields, FileFault, Reader, Record};
+use jobfile::{FileFault, Reader, Record, Refusal, TypeRecord};
 use std::process::Abort;
 use std::test::Fail;
 
@@ -12,32 +12,21 @@ fn is_refused(
     place: usize,
     what: &str,
 ) -> Result<(), Fail> {
-    match Reader::open(bytes) {
-        Ok(_) => Err(Fail::new("was read")),
-        Err(fault) => {
-            assert_eq!(rt;
-                (fault.number(), fault.layer(), fault.place()),
-                (number, 1, place),
-                "{what}"
-            );
-            Ok(())
-        },
-    }
+    let fault = Reader::open(bytes).err().ok_or("was read")?;
+    assert_eq!(rt;
+        (fault.number(), fault.layer(), fault.place()),
+        (number, 1, place),
+        "{what}"
+    );
+    Ok(())
 }
 
 /// The only record of a file that has one.
-fn only_record(rt: &impl Abort, bytes: &[u8]) -> Result<Fields, Fail> {
-    let Ok(mut reader) = Reader::open(bytes) else {
-        return Err(Fail::new("refused"));
-    };
-    let Some(record) = reader.next() else {
-        return Err(Fail::new("no record"));
-    };
+fn only_record(rt: &impl Abort, bytes: &[u8]) -> Result<TypeRecord, Fail> {
+    let mut reader = Reader::open(bytes)?;
+    let record = reader.next().ok_or("no record")?;
     assert!(rt; reader.next().is_none());
-    match record {
-        Record::Named { fields, .. } => Ok(fields),
-        Record::Bare { fields } => Ok(fields),
-    }
+    Ok(record.fields())
 }
 
 #[test]
@@ -76,38 +65,34 @@ fn names(rt: HostRuntime) -> Result<(), Fail> {
     is_refused(&rt, &[1, 1, 8, 2, 65], 11, 5, "good bytes cut off")?;
     is_refused(&rt, &[1, 1, 8, 2, 32], 12, 4, "a wrong byte before the end")?;
     is_refused(&rt, &[1, 1, 8, 1, 127], 12, 4, "a byte above 126")?;
-    let Ok(mut reader) = Reader::open(&[1, 1, 8, 2, 33, 126]) else {
-        return Err(Fail::new("refused"));
-    };
+    let mut reader = Reader::open(&[1, 1, 8, 2, 33, 126])?;
     let Some(Record::Named { name, .. }) = reader.next() else {
         return Err(Fail::new("nameless"));
     };
-    assert!(rt; name == [33, 126].as_slice());
+    assert_eq!(rt; name, [33, 126].as_slice());
     Ok(())
 }
 
 #[test]
 fn not_entered_is_not_zero(rt: HostRuntime) -> Result<(), Fail> {
     let gaps = only_record(&rt, &[1, 1, 0])?;
-    assert_eq!(rt; gaps.quantity, None);
-    assert_eq!(rt; gaps.mask, None);
-    assert_eq!(rt; gaps.limit, None);
+    assert_eq!(rt; (gaps.quantity, gaps.mask, gaps.limit), (None, None, None));
     let zeros = only_record(&rt, &[1, 1, 7, 0, 0, 0, 0, 0])?;
-    assert_eq!(rt; zeros.quantity, Some(0));
-    assert_eq!(rt; zeros.mask, Some(0));
-    assert_eq!(rt; zeros.limit, Some(0));
+    assert_eq!(rt;
+        (zeros.quantity, zeros.mask, zeros.limit),
+        (Some(0), Some(0), Some(0))
+    );
     let largest = only_record(&rt, &[1, 8, 7, 255, 255, 255, 255, 255])?;
-    assert_eq!(rt; largest.quantity, Some(65535));
-    assert_eq!(rt; largest.mask, Some(255));
-    assert_eq!(rt; largest.limit, Some(65535));
+    assert_eq!(rt;
+        (largest.quantity, largest.mask, largest.limit),
+        (Some(65535), Some(255), Some(65535))
+    );
     Ok(())
 }
 
 #[test]
 fn records_come_in_order(rt: HostRuntime) -> Result<(), Fail> {
-    let Ok(mut reader) = Reader::open(&[2, 3, 1, 5, 0, 3, 1, 2, 6]) else {
-        return Err(Fail::new("refused"));
-    };
+    let mut reader = Reader::open(&[2, 3, 1, 5, 0, 3, 1, 2, 6])?;
     assert_eq!(rt; (reader.types(), reader.nozzles()), (2, 3));
     let Some(Record::Bare { fields }) = reader.next() else {
         return Err(Fail::new("named"));
@@ -126,14 +111,14 @@ fn records_come_in_order(rt: HostRuntime) -> Result<(), Fail> {
 #[test]
 fn told_in_words(rt: HostRuntime) -> Result<(), Fail> {
     let told = report(rt.alloc(), &[1, 2, 11, 5, 0, 2, 2, 65, 49])?;
-    assert!(rt;
-        told.as_slice()
-            == b"types 1, nozzles 2\ntype 1 A1: quantity 5, nozzles 2, limit none\nwritten again: 9 bytes, the same\n".as_slice()
+    assert_eq!(rt;
+        told.as_slice(),
+        b"types 1, nozzles 2\ntype 1 A1: quantity 5, nozzles 2, limit none\nwritten again: 9 bytes, the same\n".as_slice()
     );
     let refused = report(rt.alloc(), &[1])?;
-    assert!(rt;
-        refused.as_slice()
-            == b"refused 11 1 1\nthe file ends too early, length in bytes: 1\n".as_slice()
+    assert_eq!(rt;
+        refused.as_slice(),
+        b"refused 11 1 1\nthe file ends too early, length in bytes: 1\n".as_slice()
     );
     Ok(())
 }

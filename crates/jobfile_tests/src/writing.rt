@@ -1,15 +1,9 @@
 // Writing job files, and copying them.
-use jobfile::{Fields, FileFault, Reader, Record, Writer, copy};
+use jobfile::{FileFault, Reader, Record, TypeRecord, Writer, copy};
 use std::process::Abort;
 use std::test::Fail;
 
-const NOTHING: Fields = Fields {
-    quantity: None,
-    mask: None,
-    limit: None,
-};
-
-const LARGEST: Fields = Fields {
+const LARGEST: TypeRecord = TypeRecord {
     quantity: Some(65535),
     mask: Some(255),
     limit: Some(65535),
@@ -18,9 +12,7 @@ const LARGEST: Fields = Fields {
 /// A writer of one nozzle and one type does not take the record, and changes nothing.
 fn is_unwritable(rt: &impl Abort, record: Record<'_>, what: &str) -> Result<(), Fail> {
     let mut out = [9; 40];
-    let Ok(mut writer) = Writer::open(1, 1, &mut out) else {
-        return Err(Fail::new("not opened"));
-    };
+    let mut writer = Writer::open(1, 1, &mut out)?;
     assert_eq!(rt;
         writer.put(record, &mut out),
         Err(FileFault::Unwritable { place: 2 }),
@@ -36,35 +28,28 @@ fn is_unwritable(rt: &impl Abort, record: Record<'_>, what: &str) -> Result<(), 
 }
 
 #[test]
-fn headers_out_of_range(rt: HostRuntime) -> Result<(), Fail> {
+fn headers_out_of_range(rt: HostRuntime) {
     let mut out = [9; 2];
     assert!(rt; is_header_refused(0, 1, &mut out));
     assert!(rt; is_header_refused(25, 1, &mut out));
     assert!(rt; is_header_refused(1, 0, &mut out));
     assert!(rt; is_header_refused(1, 9, &mut out));
     assert!(rt; out[0] == 9 && out[1] == 9);
-    match Writer::open(1, 1, &mut out[0..1]) {
-        Ok(_) => Err(Fail::new("opened in one byte")),
-        Err(fault) => {
-            assert_eq!(rt; fault, FileFault::NoRoom { place: 2 });
-            Ok(())
-        },
-    }
+    assert_eq!(rt;
+        Writer::open(1, 1, &mut out[0..1]).err(),
+        Some(FileFault::NoRoom { place: 2 })
+    );
 }
 
 fn is_header_refused(types: u8, nozzles: u8, out: &mut [u8]) -> bool {
-    match Writer::open(types, nozzles, out) {
-        Ok(_) => false,
-        Err(fault) => fault == FileFault::HeaderRange,
-    }
+    Writer::open(types, nozzles, out).err() == Some(FileFault::HeaderRange)
 }
 
 #[test]
 fn records_that_no_file_holds(rt: HostRuntime) -> Result<(), Fail> {
-    let limit_alone = Fields {
-        quantity: None,
-        mask: None,
+    let limit_alone = TypeRecord {
         limit: Some(3),
+        ..TypeRecord::default()
     };
     is_unwritable(
         &rt,
@@ -78,7 +63,7 @@ fn records_that_no_file_holds(rt: HostRuntime) -> Result<(), Fail> {
         &rt,
         Record::Named {
             name: b"",
-            fields: NOTHING,
+            fields: TypeRecord::default(),
         },
         "an empty name",
     )?;
@@ -86,7 +71,7 @@ fn records_that_no_file_holds(rt: HostRuntime) -> Result<(), Fail> {
         &rt,
         Record::Named {
             name: b"123456789012345678901",
-            fields: NOTHING,
+            fields: TypeRecord::default(),
         },
         "a name of 21 bytes",
     )?;
@@ -94,7 +79,7 @@ fn records_that_no_file_holds(rt: HostRuntime) -> Result<(), Fail> {
         &rt,
         Record::Named {
             name: b"R 1",
-            fields: NOTHING,
+            fields: TypeRecord::default(),
         },
         "a name with a space",
     )
@@ -110,9 +95,7 @@ fn longest() -> Record<'static> {
 
 /// Writes the longest file, and tries one record more.
 fn write_longest(rt: &impl Abort, out: &mut [u8]) -> Result<(), Fail> {
-    let Ok(mut writer) = Writer::open(24, 8, out) else {
-        return Err(Fail::new("not opened"));
-    };
+    let mut writer = Writer::open(24, 8, out)?;
     for _ in 0..24u8 {
         assert!(rt; writer.finish().is_err());
         assert_eq!(rt; writer.put(longest(), out), Ok(()));
@@ -127,9 +110,7 @@ fn write_longest(rt: &impl Abort, out: &mut [u8]) -> Result<(), Fail> {
 
 /// Reads the longest file.
 fn read_longest(rt: &impl Abort, file: &[u8]) -> Result<(), Fail> {
-    let Ok(mut reader) = Reader::open(file) else {
-        return Err(Fail::new("refused"));
-    };
+    let mut reader = Reader::open(file)?;
     for _ in 0..24u8 {
         let Some(Record::Named { name, fields }) = reader.next() else {
             return Err(Fail::new("nameless"));
@@ -157,9 +138,7 @@ fn nameless() -> Record<'static> {
 #[test]
 fn too_little_memory(rt: HostRuntime) -> Result<(), Fail> {
     let mut out = [9; 28];
-    let Ok(mut writer) = Writer::open(1, 8, &mut out) else {
-        return Err(Fail::new("not opened"));
-    };
+    let mut writer = Writer::open(1, 8, &mut out)?;
     assert_eq!(rt;
         writer.put(longest(), &mut out),
         Err(FileFault::NoRoom { place: 29 })

@@ -1,6 +1,6 @@
 -- The job file: its records, their bytes, and which bytes are a file.
 use Rattle.std.specs.Prelude.{◌≡◌, ℕ, ◌+◌, ◌/◌, ◌%◌, ◌^◌, ◌<◌, ◌≤◌, Bool, true, false, not, ◌&&◌, ◌||◌, List, [], ◌∷◌, ◌++◌, length, take, is_some, Some, None, Ok, Err, Option, Result, nat_le, nat_lt}
-use Rattle.std.specs.List.{flat_map}
+use Rattle.std.specs.List.{flat_map, list_all}
 use Rattle.jobformat.specs.declared.FileFault.{FileFault}
 use Rattle.jobformat.specs.declared.FileFault.TheVariants.{HeaderRange, Unwritable, NoSuchRecord, NoRoom, EndsEarly, BadByte}
 
@@ -42,8 +42,7 @@ abbrev pub graphic : ℕ → Bool
 graphic b = nat_le 33 b && nat_le b 126
 
 abbrev pub all_graphic : List ℕ → Bool
-all_graphic [] = true
-all_graphic (b ∷ bs) = graphic b && all_graphic bs
+all_graphic = list_all graphic
 
 -- a name has 1 to 20 graphic bytes
 abbrev pub name_fits : Option (List ℕ) → Bool

@@ -23,9 +23,13 @@ number [] = short
 number (a ∷ []) = short
 number (a ∷ b ∷ rest) = got (a + 256 * b) rest
 
+-- a field of bs that may be left out, by what reading it gives where it is there
+abbrev pub field_if : {X : Type 0} → Bool → Parse X → List ℕ → Parse (Option X)
+field_if false p bs = got None bs
+field_if true p bs = then p (λ x rest. got (Some x) rest)
+
 abbrev pub number_if : Bool → List ℕ → Parse (Option ℕ)
-number_if false bs = got None bs
-number_if true bs = then (number bs) (λ n rest. got (Some n) rest)
+number_if present bs = field_if present (number bs) bs
 
 -- a mask of r nozzles
 abbrev pub mask : ℕ → List ℕ → Parse ℕ
@@ -33,8 +37,7 @@ mask r [] = short
 mask r (b ∷ rest) = cond (nat_lt b (2 ^ r)) (got b rest) (bad (length (b ∷ rest)))
 
 abbrev pub mask_if : Bool → ℕ → List ℕ → Parse (Option ℕ)
-mask_if false r bs = got None bs
-mask_if true r bs = then (mask r bs) (λ m rest. got (Some m) rest)
+mask_if present r bs = field_if present (mask r bs) bs
 
 -- n bytes of a name
 abbrev pub graphics : List ℕ → ℕ → Parse (List ℕ)
@@ -56,8 +59,7 @@ abbrev pub is_map : ℕ → Bool
 is_map m = nat_lt m 16 && (not (has m 4) || has m 2)
 
 abbrev pub name_if : Bool → List ℕ → Parse (Option (List ℕ))
-name_if false bs = got None bs
-name_if true bs = then (name bs) (λ n rest. got (Some n) rest)
+name_if present bs = field_if present (name bs) bs
 
 -- the fields whose bits stand in the map m, in their order
 abbrev pub fields : ℕ → ℕ → List ℕ → Parse Entry

@@ -2,8 +2,21 @@
 // what a job file is, and its proofs/ hold the laws of reading and writing one.
 #![tactic(auto)]
 
-ghost use Rattle.std.specs.Prelude.{◌≡◌};
-ghost use Rattle.jobformat.specs.Faults.{number_of, layer_of, place_of};
+ghost use Rattle.std.specs.Prelude.{Some};
+ghost use Rattle.jobformat.specs.Faults.{number_of, layer_of, place_of, fault_text};
+
+use refusals::Refusal;
+use std::error::Error;
+use std::fmt;
+
+/// A file has 1 to so many types, and a record for each.
+pub const MOST_TYPES: u8 = 24;
+
+/// A file has 1 to so many nozzles.
+pub const MOST_NOZZLES: u8 = 8;
+
+/// The longest file in bytes: the two of its header, and 27 for each record.
+pub const LONGEST: usize = 2 + 27 * MOST_TYPES as usize;
 
 /// A refusal of the file layer.
 #[derive(Clone, Copy, PartialEq, Eq, Debug)]
@@ -22,11 +35,14 @@ pub enum FileFault {
     BadByte { place: usize },
 }
 
-impl FileFault {
-    /// The refusal's number.
-    pub fn number(&self) -> u8
-        ensures { result ≡ number_of self.now }
-    {
+impl Refusal for FileFault {
+    ghost number = { number_of };
+
+    ghost layer = { layer_of };
+
+    ghost place = { place_of };
+
+    fn number(&self) -> u8 {
         match self {
             FileFault::HeaderRange => 1,
             FileFault::Unwritable { .. } => 3,
@@ -37,17 +53,12 @@ impl FileFault {
         }
     }
 
-    /// The layer that refuses.
-    pub fn layer(&self) -> u8
-        ensures { result ≡ layer_of self.now }
-    {
+    fn layer(&self) -> u8 {
         1
     }
 
-    /// Where: a byte's index, a count of bytes, or a record's number.
-    pub fn place(&self) -> usize
-        ensures { result ≡ place_of self.now }
-    {
+    /// A byte's index, a count of bytes, or a record's number.
+    fn place(&self) -> usize {
         match self {
             FileFault::HeaderRange => 0,
             FileFault::Unwritable { place }
@@ -58,3 +69,33 @@ impl FileFault {
         }
     }
 }
+
+impl fmt::Display for FileFault {
+    ghost output = { λ f. Some (fault_text f) };
+
+    fn fmt<W: fmt::Write>(&self, f: &mut fmt::Formatter<W>) -> fmt::Result {
+        match self {
+            FileFault::HeaderRange => {
+                write!(
+                    f,
+                    "the header is out of range: 1 to 24 types, 1 to 8 nozzles"
+                )
+            }
+            FileFault::Unwritable { place } => {
+                write!(f, "no job file can hold the record behind byte {place}")
+            }
+            FileFault::NoSuchRecord { place } => write!(f, "the header has no record {place}"),
+            FileFault::NoRoom { place } => {
+                write!(f, "the memory is too small, needed in bytes: {place}")
+            }
+            FileFault::EndsEarly { place } => {
+                write!(f, "the file ends too early, length in bytes: {place}")
+            }
+            FileFault::BadByte { place } => {
+                write!(f, "no job file has such a byte at index {place}")
+            }
+        }
+    }
+}
+
+impl Error for FileFault {}

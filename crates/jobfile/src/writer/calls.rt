@@ -7,8 +7,9 @@ ghost use Rattle.jobfile.specs.Writes.{over, err_of, open_fault, put_fault};
 ghost use Rattle.jobfile.specs.Written.{Holds, contents_with};
 
 use super::Writer;
-use crate::writing::{is_record, size, write, write_record};
+use crate::writing::{is_record, record_bytes, write};
 use crate::{FileFault, Record};
+use jobformat::{MOST_NOZZLES, MOST_TYPES};
 
 impl Writer {
     /// Begins a file: writes the header, or refuses and writes nothing.
@@ -18,7 +19,7 @@ impl Writer {
         ensures out { out.new ≡ (if is_ok result then over out.old 0 (types ∷ nozzles ∷ []) else out.old) }
         ensures holds { IfOk result (λ w. Holds w out.new []) }
     {
-        if !(1 <= types && types <= 24 && 1 <= nozzles && nozzles <= 8) {
+        if !(1..=MOST_TYPES).contains(&types) || !(1..=MOST_NOZZLES).contains(&nozzles) {
             return Err(FileFault::HeaderRange);
         }
         if out.len() < 2 {
@@ -50,15 +51,15 @@ impl Writer {
         }
         if self.done == self.types {
             return Err(FileFault::NoSuchRecord {
-                place: self.types as usize + 1,
+                place: usize::from(self.types) + 1,
             });
         }
-        let end = self.written + size(entry);
+        let bytes = record_bytes(entry);
+        let end = self.written + bytes.len();
         if out.len() < end {
             return Err(FileFault::NoRoom { place: end });
         }
-        write_record(entry, out, self.written);
-        self.written = end;
+        self.written = write(bytes.as_slice(), out, self.written);
         self.done += 1;
         Ok(())
     }

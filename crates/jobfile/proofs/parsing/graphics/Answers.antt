@@ -1,17 +1,24 @@
-use Rattle.std.proofs.Common.{sym, arith}
-use Rattle.jobfile.proofs.Names.{graphics_bad, graphics_short, graphics_got}
+use Rattle.std.proofs.Common.{rules, ◌≡◌, not, take, Some, None, sym, ◌∙◌, arith}
+use Rattle.std.specs.List.{position_from}
+use Rattle.std.proofs.lemmas.Grind.{common_steps}
+use Rattle.std.proofs.lemmas.Iterator.{YieldsList-from_slice, YieldsList-from_take}
+use Rattle.std.proofs.lemmas.Iterator.Search.{position_from_yields_List}
+use Rattle.std.proofs.lemmas.Iterator.Adapters.{position_from-zero}
+use Rattle.jobformat.specs.Format.{graphic}
+use Rattle.jobfile.proofs.Names.{graphics_at}
 use Rattle.jobfile.proofs.parsing.graphics.Goals as goal
-use Rattle.jobfile.proofs.parsing.graphics.Goals.{else-loop-i-test, then-loop-i-test+then-i-n}
 
-pub returns-then-not-is_graphic : goal.returns-then-not-is_graphic
-returns-then-not-is_graphic c =
-    sym (graphics_bad c.args.bytes.now c.args.n c.loop-i.i (omega arith) (omega arith) c.loop-i.invariant.1 (sym c.if-not-is_graphic.ensures))
-
-pub returns-then-bytes-n : goal.returns-then-bytes-n
-returns-then-bytes-n c =
-    sym (graphics_short c.args.bytes.now c.args.n (omega arith) (λ k lt. c.loop-i.invariant.1 k (elim c.loop-i-test.branch [ else-loop-i-test w ↦ omega arith | then-loop-i-test+then-i-n w ↦ omega arith ])))
+pub returns-in-Some : goal.returns-in-Some
+returns-in-Some c =
+    let bs = c.args.bytes.now in
+    let n = c.args.n in
+    let found : c.position.result ≡ position_from (λ b. not (graphic b)) 0 (take n bs) = position_from_yields_List (λ b. not (graphic b)) _ _ _ c.position.ensures.ran (YieldsList-from_take n (YieldsList-from_slice bs (search rules)) (search rules)) (λ x b q e. search rules) ∙ position_from-zero (λ b. not (graphic b)) (take n bs) in
+    sym (graphics_at bs n (Some c.in-Some.i) (sym c.in-Some.is ∙ found))
 
 pub returns : goal.returns
 returns c =
-    let parts = graphics_got c.args.bytes.now c.args.n (omega arith) (λ k lt. c.loop-i.invariant.1 k (elim c.loop-i-test.branch [ else-loop-i-test w ↦ omega arith | then-loop-i-test+then-i-n w ↦ omega arith ])) in
-    cc (parts, c.split_at.ensures.front, c.split_at.ensures.back)
+    let bs = c.args.bytes.now in
+    let n = c.args.n in
+    let found : c.position.result ≡ position_from (λ b. not (graphic b)) 0 (take n bs) = position_from_yields_List (λ b. not (graphic b)) _ _ _ c.position.ensures.ran (YieldsList-from_take n (YieldsList-from_slice bs (search rules)) (search rules)) (λ x b q e. search rules) ∙ position_from-zero (λ b. not (graphic b)) (take n bs) in
+    let all = graphics_at bs n None (sym c.in_default.is ∙ found) in
+    grind (arith, common_steps, all)

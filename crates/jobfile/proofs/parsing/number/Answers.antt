@@ -1,9 +1,11 @@
-use Rattle.std.proofs.Common.{◌≤◌, length, sym, ap, rules}
+use Rattle.std.proofs.Common.{◌≡◌, ◌+◌, ◌*◌, ◌≤◌, length, get_or, sym, ap, arith, rules}
 use Rattle.jobformat.specs.Reading.{number}
 use Rattle.jobfile.proofs.Slices.{two}
 use Rattle.jobfile.proofs.parsing.number.Goals as goal
 
 pub returns : goal.returns
 returns c =
-    let long : 2 ≤ length c.args.bytes.now = search rules in
-    simp (c.from.ensures, c.from-2.ensures) (sym (ap number (two c.args.bytes.now long)))
+    let bs = c.args.bytes.now in
+    let long : 2 ≤ length bs = search rules in
+    let is : c.from_le_bytes.result ≡ get_or bs 0 0 + 256 * get_or bs 1 0 = omega (arith, c.from_le_bytes.ensures) in
+    rw is (sym (ap number (two bs long)))

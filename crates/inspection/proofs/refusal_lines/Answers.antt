@@ -1,4 +1,0 @@
-use Rattle.inspection.proofs.refusal_lines.Goals as goal
-
-pub returns : goal.returns
-returns c = simp (c.in_ok-words.ensures, c.number-number.ensures, c.layer-layer.ensures, c.place-place.ensures) at c.format.ensures.ok
