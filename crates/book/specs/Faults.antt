@@ -1,6 +1,6 @@
 -- The number, the layer and the place that a refusal is answered with. A fault of a lower layer keeps
 -- its own.
-use Rattle.std.specs.Prelude.{ℕ}
+use Rattle.std.specs.Prelude.{ℕ, List, ◌++◌, codes, decimal}
 use Rattle.jobformat.specs.Faults as file
 use Rattle.network.specs.Faults as network
 use Rattle.sheets.specs.declared.boards.BoardFault.{BoardFault}
@@ -55,3 +55,18 @@ place_of (Network f) = network.place_of f
 abbrev pub of_board : BoardFault → JobFault
 of_board BadBoard = BadSize
 of_board (Gap kind) = NotEntered kind
+
+-- what is wrong, in words
+abbrev pub fault_text : JobFault → List ℕ
+fault_text BadSize = codes "not 1 to 24 types and 1 to 8 nozzles"
+fault_text (NoSuchType kind) = codes "the job has no type " ++ decimal kind
+fault_text (NoSuchNozzle nozzle) = codes "the job has no nozzle " ++ decimal nozzle
+fault_text (TooLarge kind) = codes "a figure for type " ++ decimal kind ++ codes " is too large"
+fault_text (NotInService nozzle) = codes "nozzle " ++ decimal nozzle ++ codes " is not in service"
+fault_text (NotOut nozzle) = codes "the ticket for nozzle " ++ decimal nozzle ++ codes " is not for a nozzle out here"
+fault_text (NotEntered kind) = codes "a quantity or a mask of type " ++ decimal kind ++ codes " was not entered"
+fault_text NoPlan = codes "nothing is planned"
+fault_text (NoSuchPart number) = codes "there is no subtour or step " ++ decimal number
+fault_text (NoRoom needed) = codes "the memory is too small, needed in places: " ++ decimal needed
+fault_text (File f) = file.fault_text f
+fault_text (Network f) = network.fault_text f

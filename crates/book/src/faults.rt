@@ -1,12 +1,14 @@
 // What the job layer refuses.
-ghost use Rattle.std.specs.Prelude.{◌≡◌};
+ghost use Rattle.std.specs.Prelude.{◌≡◌, Some};
 ghost use Rattle.book.specs.declared.faults.JobFault.TheVariants.{File, Network};
-ghost use Rattle.book.specs.Faults.{number_of, layer_of, place_of, of_board};
+ghost use Rattle.book.specs.Faults.{number_of, layer_of, place_of, of_board, fault_text};
 
 use jobformat::FileFault;
 use network::NetworkFault;
 use refusals::Refusal;
 use sheets::BoardFault;
+use std::error::Error;
+use std::fmt;
 
 /// A refusal of the job layer, or one of a lower layer, passed on whole.
 #[derive(Clone, Copy, PartialEq, Eq, Debug)]
@@ -83,6 +85,38 @@ impl Refusal for JobFault {
         }
     }
 }
+
+impl fmt::Display for JobFault {
+    ghost output = { λ fault. Some (fault_text fault) };
+
+    fn fmt<W: fmt::Write>(&self, f: &mut fmt::Formatter<W>) -> fmt::Result {
+        match self {
+            JobFault::BadSize => write!(f, "not 1 to 24 types and 1 to 8 nozzles"),
+            JobFault::NoSuchType { kind } => write!(f, "the job has no type {kind}"),
+            JobFault::NoSuchNozzle { nozzle } => write!(f, "the job has no nozzle {nozzle}"),
+            JobFault::TooLarge { kind } => { write!(f, "a figure for type {kind} is too large") }
+            JobFault::NotInService { nozzle } => write!(f, "nozzle {nozzle} is not in service"),
+            JobFault::NotOut { nozzle } => {
+                write!(
+                    f,
+                    "the ticket for nozzle {nozzle} is not for a nozzle out here"
+                )
+            }
+            JobFault::NotEntered { kind } => {
+                write!(f, "a quantity or a mask of type {kind} was not entered")
+            }
+            JobFault::NoPlan => write!(f, "nothing is planned"),
+            JobFault::NoSuchPart { number } => { write!(f, "there is no subtour or step {number}") }
+            JobFault::NoRoom { needed } => {
+                write!(f, "the memory is too small, needed in places: {needed}")
+            }
+            JobFault::File(fault) => write!(f, "{fault}"),
+            JobFault::Network(fault) => write!(f, "{fault}"),
+        }
+    }
+}
+
+impl Error for JobFault {}
 
 impl From<FileFault> for JobFault {
     ghost from_gives = { λ e r. r ≡ File e };

@@ -3,19 +3,13 @@
 
 ghost use Rattle.std.specs.Prelude.{◌≤◌, length, IfOk};
 
-use anyhow::anyhow;
 use book::{JobFault, Outcome};
+use file_input::read_file;
 use job::Job;
 use loading::load;
 use path_engine::PathEngine;
-use report::{outcome_line, refusal_line, subtour_line};
-use std::io::{BufWriter, Read, Write};
-
-/// One byte more than the longest job file has: enough to see that a longer input is none.
-const ENOUGH: u64 = 651;
-
-/// More bytes than the longest line has.
-const LINE: usize = 192;
+use report::{LONGEST_LINE, outcome_line, refusal_line, subtour_line};
+use std::io::{BufWriter, Write};
 
 fn plan(job: &mut Job, bytes: &[u8]) -> Result<Outcome, JobFault> {
     load(job, 1, bytes)?;
@@ -26,13 +20,9 @@ fn plan(job: &mut Job, bytes: &[u8]) -> Result<Outcome, JobFault> {
 fn print(line: &[u8], written: Result<usize, JobFault>, out: &mut impl Write) -> anyhow::Result<()>
     requires { IfOk written (λ n. n ≤ length line.now) }
 {
-    match written {
-        Ok(count) => {
-            out.write_all(&line[0..count])?;
-            Ok(())
-        }
-        Err(_) => Err(anyhow!("a line could not be written")),
-    }
+    let count = written?;
+    out.write_all(&line[0..count])?;
+    Ok(())
 }
 
 fn print_subtours(
@@ -53,7 +43,7 @@ fn print_answer(
     answer: Result<Outcome, JobFault>,
     out: &mut impl Write,
 ) -> anyhow::Result<()> {
-    let mut line = [0; LINE];
+    let mut line = [0; LONGEST_LINE];
     let written = match answer {
         Ok(outcome) => outcome_line(outcome, &mut line),
         Err(fault) => refusal_line(fault, &mut line),
@@ -66,8 +56,7 @@ fn print_answer(
 }
 
 fn run(rt: &HostRuntime) -> anyhow::Result<()> {
-    let mut bytes = Vec::new(rt.alloc());
-    rt.stdin().take(ENOUGH).read_to_end(&mut bytes)?;
+    let bytes = read_file(rt.alloc(), rt.stdin())?;
     let mut job = Job::blank();
     let answer = plan(&mut job, bytes.as_slice());
     let mut out = BufWriter::new(rt.alloc(), rt.stdout())?;
