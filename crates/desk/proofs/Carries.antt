@@ -14,8 +14,7 @@ use Rattle.job.specs.Jobs.{state_of, Done as DoneBy}
 use Rattle.desk.specs.declared.Request.{Request}
 use Rattle.desk.specs.declared.Answer.{Answer}
 use Rattle.desk.specs.declared.slots.Slot.{Slot}
-use Rattle.desk.specs.declared.slots.Slot.TheVariants.{Free}
-use Rattle.desk.specs.Desks.{World, world, said, at, turn_of, slot_after, rack_after, counts_after, Paired, Turned, Does, Carried, stop, next, if_said, replies, replies_of, Recorded, SlotTurned, answered}
+use Rattle.desk.specs.Desks.{free, World, world, said, at, turn_of, slot_after, rack_after, counts_after, Paired, Turned, Does, Carried, stop, next, if_said, replies, replies_of, Recorded, SlotTurned, answered}
 
 -- the same request under another name
 pub does_at : (q p : Request) (w : World) (a : Answer) (v : World) → q ≡ p → Does w p a v → Does w q a v
@@ -37,15 +36,15 @@ module _ (q : Request) (i : ℕ) (rack : List Slot) (counts : List ℕ) (s s' : 
   abbrev after : World
   after = world s' (set rack i x') counts
 
-  slot_pair : (turn : Option Turn) (o : Option Reply) → ((r : Reply) → rack_after q r rack ≡ set rack i (slot_after (get_or rack i Free) r)) → ((r : Reply) → counts_after q r counts ≡ counts)
-      → Paired turn o (λ t r. SlotTurned s (get_or rack i Free) t r s' x') ((s' ≡ s) × (x' ≡ get_or rack i Free)) → Paired turn o (λ t r. Turned (world s rack counts) q t r after) (after ≡ world s rack counts)
+  slot_pair : (turn : Option Turn) (o : Option Reply) → ((r : Reply) → rack_after q r rack ≡ set rack i (slot_after (get_or rack i free) r)) → ((r : Reply) → counts_after q r counts ≡ counts)
+      → Paired turn o (λ t r. SlotTurned s (get_or rack i free) t r s' x') ((s' ≡ s) × (x' ≡ get_or rack i free)) → Paired turn o (λ t r. Turned (world s rack counts) q t r after) (after ≡ world s rack counts)
   slot_pair (Some t) (Some r) tickets engines h = record { happens = h.happens; rack = ap (set rack i) h.slot ∙ sym (tickets r); counts = sym (engines r) }
-  slot_pair None None tickets engines h = λ k. world (h.0 k) ((ap (set rack i) h.1 ∙ set-get_or rack i Free) k) counts
+  slot_pair None None tickets engines h = λ k. world (h.0 k) ((ap (set rack i) h.1 ∙ set-get_or rack i free) k) counts
   slot_pair (Some t) None tickets engines h = h
   slot_pair None (Some r) tickets engines h = h
 
-  pub slot_does : (turn : Option Turn) (o : Option Reply) → i < length rack → ((r : Reply) → rack_after q r rack ≡ set rack i (slot_after (get_or rack i Free) r)) → ((r : Reply) → counts_after q r counts ≡ counts)
-      → Paired turn o (λ t r. SlotTurned s (get_or rack i Free) t r s' x') ((s' ≡ s) × (x' ≡ get_or rack i Free)) → Paired (at rack i turn) o (λ t r. Turned (world s rack counts) q t r after) (after ≡ world s rack counts)
+  pub slot_does : (turn : Option Turn) (o : Option Reply) → i < length rack → ((r : Reply) → rack_after q r rack ≡ set rack i (slot_after (get_or rack i free) r)) → ((r : Reply) → counts_after q r counts ≡ counts)
+      → Paired turn o (λ t r. SlotTurned s (get_or rack i free) t r s' x') ((s' ≡ s) × (x' ≡ get_or rack i free)) → Paired (at rack i turn) o (λ t r. Turned (world s rack counts) q t r after) (after ≡ world s rack counts)
   slot_does turn o l tickets engines h = rw (at_place rack i turn l) (slot_pair turn o tickets engines h)
 
 -- a row in memory of which only the first places are lent

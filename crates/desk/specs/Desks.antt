@@ -1,6 +1,7 @@
 -- What a list of requests does to a job, to the caller's tickets and to the counts of the engines.
-use Rattle.std.specs.Prelude.{◌≡◌, ℕ, ◌+◌, ◌%◌, ◌^◌, cond, List, [], ◌∷◌, map, length, take, Some, None, Ok, Err, Option, Result, nat_lt, slice_index, slice_index_or, slice_set}
+use Rattle.std.specs.Prelude.{◌≡◌, ℕ, ◌+◌, ◌%◌, ◌^◌, cond, List, [], ◌∷◌, map, length, take, Some, None, Ok, Err, Option, Result, is_some, nat_lt, slice_index, slice_index_or, slice_set}
 use Rattle.std.specs.List.{range_with_len}
+use Rattle.std.specs.Option.{option_map}
 use Rattle.book.specs.declared.faults.JobFault.{JobFault}
 use Rattle.book.specs.Books.{runs_of}
 use Rattle.book.specs.Turns.{Turn, enter_quantity, enter_mask, take_out, give_back, scrap, exchange, plan, show_subtour, show_step}
@@ -11,7 +12,6 @@ use Rattle.desk.specs.declared.Request.TheVariants.{EnterQuantity, EnterMask, Ta
 use Rattle.desk.specs.declared.Answer.{Answer}
 use Rattle.desk.specs.declared.Answer.TheVariants.{Skipped, Refused, Done, Gave, Ended, Row, Step}
 use Rattle.desk.specs.declared.slots.Slot.{Slot}
-use Rattle.desk.specs.declared.slots.Slot.TheVariants.{Free, Held}
 
 -- a job, the rack of the caller's tickets, and the counts of the caller's engines
 pub record World : Type 0 where
@@ -32,19 +32,19 @@ said (Ended o) = Some (ended o)
 said (Row count bytes) = Some (row (take count bytes))
 said (Step x) = Some (step x)
 
-abbrev pub held : Slot → Option Ticket
-held Free = None
-held (Held t) = Some t
+abbrev pub free : Slot
+free = record { ticket = None }
+
+abbrev pub holding : Ticket → Slot
+holding t = record { ticket = Some t }
 
 -- a turn that fills a slot, which must be free
 abbrev pub fill : Slot → Turn → Option Turn
-fill Free turn = Some turn
-fill (Held _) turn = None
+fill x turn = cond (is_some x.ticket) None (Some turn)
 
 -- a turn with the ticket of a slot, by the ticket's two numbers
 abbrev pub spend : Slot → (ℕ → ℕ → Turn) → Option Turn
-spend Free turn = None
-spend (Held t) turn = Some (turn t.job t.nozzle)
+spend x turn = option_map (λ t. turn t.job t.nozzle) x.ticket
 
 -- the turn at a place of a list, if there is such a place
 abbrev pub at : {X : Type 0} → List X → ℕ → Option Turn → Option Turn
@@ -55,10 +55,10 @@ at xs i turn = cond (nat_lt i (length xs)) turn None
 abbrev pub turn_of : Request → List Slot → List ℕ → Option Turn
 turn_of (EnterQuantity t q) rack counts = Some (enter_quantity t q)
 turn_of (EnterMask t m l) rack counts = Some (enter_mask t m l)
-turn_of (TakeOut n s) rack counts = at rack s (fill (slice_index_or rack s Free) (take_out n))
-turn_of (GiveBack s) rack counts = at rack s (spend (slice_index_or rack s Free) give_back)
-turn_of (Scrap s) rack counts = at rack s (spend (slice_index_or rack s Free) scrap)
-turn_of (Exchange s n) rack counts = at rack s (spend (slice_index_or rack s Free) (λ job own. exchange job own n))
+turn_of (TakeOut n s) rack counts = at rack s (fill (slice_index_or rack s free) (take_out n))
+turn_of (GiveBack s) rack counts = at rack s (spend (slice_index_or rack s free) give_back)
+turn_of (Scrap s) rack counts = at rack s (spend (slice_index_or rack s free) scrap)
+turn_of (Exchange s n) rack counts = at rack s (spend (slice_index_or rack s free) (λ job own. exchange job own n))
 turn_of (Plan e) rack counts = at counts e (Some plan)
 turn_of (ShowSubtour n places) rack counts = Some (show_subtour n places)
 turn_of (ShowStep n) rack counts = Some (show_step n)
@@ -67,8 +67,8 @@ turn_of (ShowStep n) rack counts = Some (show_step n)
 -- refusal leaves it
 abbrev pub slot_after : Slot → Reply → Slot
 slot_after x (refused f) = x
-slot_after x done = Free
-slot_after x (gave job nozzle) = Held (record { job = job; nozzle = nozzle })
+slot_after x done = free
+slot_after x (gave job nozzle) = holding (record { job = job; nozzle = nozzle })
 slot_after x (ended o) = x
 slot_after x (row bytes) = x
 slot_after x (step y) = x
@@ -77,10 +77,10 @@ slot_after x (step y) = x
 abbrev pub rack_after : Request → Reply → List Slot → List Slot
 rack_after (EnterQuantity t q) r rack = rack
 rack_after (EnterMask t m l) r rack = rack
-rack_after (TakeOut n s) r rack = slice_set rack s (slot_after (slice_index_or rack s Free) r)
-rack_after (GiveBack s) r rack = slice_set rack s (slot_after (slice_index_or rack s Free) r)
-rack_after (Scrap s) r rack = slice_set rack s (slot_after (slice_index_or rack s Free) r)
-rack_after (Exchange s n) r rack = slice_set rack s (slot_after (slice_index_or rack s Free) r)
+rack_after (TakeOut n s) r rack = slice_set rack s (slot_after (slice_index_or rack s free) r)
+rack_after (GiveBack s) r rack = slice_set rack s (slot_after (slice_index_or rack s free) r)
+rack_after (Scrap s) r rack = slice_set rack s (slot_after (slice_index_or rack s free) r)
+rack_after (Exchange s n) r rack = slice_set rack s (slot_after (slice_index_or rack s free) r)
 rack_after (Plan e) r rack = rack
 rack_after (ShowSubtour n places) r rack = rack
 rack_after (ShowStep n) r rack = rack

@@ -3,7 +3,7 @@ ghost use Rattle.std.specs.Prelude.{◌≡◌, ℕ, ◌<◌, min, map, length, t
 ghost use Rattle.book.specs.Events.{Kept};
 ghost use Rattle.book.specs.Turns.{show_subtour, show_step};
 ghost use Rattle.job.specs.Jobs.{book_of, state_of};
-ghost use Rattle.desk.specs.Desks.{world, answered, Showing, Does, Carried, Recorded, Closed, PlanTurn};
+ghost use Rattle.desk.specs.Desks.{world, answered, free, Showing, Does, Carried, Recorded, Closed, PlanTurn};
 ghost use Rattle.desk.specs.Racks.{Sound};
 
 use crate::slots::Slot;
@@ -16,10 +16,7 @@ use network::Engine;
 fn answer(res: Result<(), JobFault>) -> Answer
     ensures { result ≡ answered res }
 {
-    match res {
-        Ok(()) => Answer::Done,
-        Err(fault) => Answer::Refused(fault),
-    }
+    res.map_or_else(Answer::Refused, |()| Answer::Done)
 }
 
 // Plans with the engine at a place, if there is one.
@@ -52,10 +49,8 @@ fn show_subtour(job: &Job, subtour: u32, places: usize) -> Answer
 fn show_step(job: &Job, step: u32) -> Answer
     ensures { Showing (state_of job.now) (show_step step) result }
 {
-    match job.show_step(step) {
-        Ok(step) => Answer::Step(step),
-        Err(fault) => Answer::Refused(fault),
-    }
+    job.show_step(step)
+        .map_or_else(Answer::Refused, Answer::Step)
 }
 
 // Carries one request out.
@@ -97,8 +92,8 @@ pub fn carry_out<E: Engine>(
     ensures rest { drop result answers.new ≡ drop result answers.old }
 {
     let n = requests.len().min(answers.len());
-    for i in 0..n {
-        answers[i] = carry_one(job, requests[i], rack, engines);
+    for (i, request) in requests[..n].iter().enumerate() {
+        answers[i] = carry_one(job, *request, rack, engines);
     }
     n
 }
@@ -106,7 +101,7 @@ pub fn carry_out<E: Engine>(
 /// Gives the tickets of a rack back, one after another. A sound rack is then free.
 pub fn close(job: &mut Job, rack: &mut [Slot])
     ensures closed { Closed (state_of job.old) rack.old (length rack.old) (state_of job.new) rack.new }
-    ensures free { Sound (book_of job.old) rack.old → (j : ℕ) → j < length rack.new → slice_index_or rack.new j Slot.Free ≡ Slot.Free }
+    ensures free { Sound (book_of job.old) rack.old → (j : ℕ) → j < length rack.new → slice_index_or rack.new j free ≡ free }
 {
     for slot in rack.iter_mut() {
         let _ = slot.give_back(job);

@@ -1,77 +1,76 @@
 // The slots of a rack, each of which holds a ticket or none, and the turns that change one.
-ghost use Rattle.std.specs.Prelude.{◌≡◌, Some, None};
+ghost use Rattle.std.specs.Prelude.{◌≡◌, None, MatchResult};
 ghost use Rattle.book.specs.Turns.{take_out, give_back, scrap, exchange};
 ghost use Rattle.job.specs.Jobs.{state_of};
-ghost use Rattle.desk.specs.Desks.{held, fill, spend, SlotTurn};
 
 use crate::Answer;
 use job::{Job, Returned, Ticket};
-use std::mem;
 
-/// A place for a ticket. It may be let go only where it is free.
-pub enum Slot {
-    Free,
-    Held(Ticket),
+/// A place for a ticket, new without one. It may be let go only where it is free.
+#[derive(Default)]
+pub struct Slot {
+    pub ticket: Option<Ticket>,
 }
 
 impl Drop for Slot {
     fn drop(self)
-        requires { self ≡ Slot.Free }
+        requires { self.ticket ≡ None }
     {
-        match self {
-            Slot::Free => {}
-            Slot::Held(_ticket) => unreachable(),
+        let Slot { ticket } = self;
+        if let Some(_ticket) = ticket {
+            unreachable()
         }
     }
 }
 
 impl Slot {
-    fn into_ticket(self) -> Option<Ticket>
-        ensures { result ≡ held self }
-    {
-        match self {
-            Slot::Free => None,
-            Slot::Held(ticket) => Some(ticket),
-        }
-    }
-
-    // Takes the ticket, and leaves the slot free.
-    fn take(&mut self) -> Option<Ticket>
-        ensures ticket { result ≡ held self.old }
-        ensures free { self.new ≡ Slot.Free }
-    {
-        mem::replace(self, Slot::Free).into_ticket()
-    }
+    ghost use Rattle.desk.specs.Desks.{free, holding, fill, spend, SlotTurn};
 
     // Puts a ticket in, and says which.
     fn put(&mut self, ticket: Ticket) -> Answer
-        requires { self.old ≡ Slot.Free }
+        requires { self.old ≡ free }
         ensures answer { result ≡ Answer.Gave ticket.job ticket.nozzle }
-        ensures held { self.new ≡ Slot.Held ticket }
+        ensures held { self.new ≡ holding ticket }
     {
         let answer = Answer::Gave {
             job: ticket.job(),
             nozzle: ticket.nozzle(),
         };
-        *self = Slot::Held(ticket);
+        *self = Slot {
+            ticket: Some(ticket),
+        };
         answer
     }
 
     // Puts a ticket that was handed back in again.
     fn restore(&mut self, returned: Returned) -> Answer
-        requires { self.old ≡ Slot.Free }
+        requires { self.old ≡ free }
         ensures answer { result ≡ Answer.Refused returned.fault }
-        ensures held { self.new ≡ Slot.Held returned.ticket }
+        ensures held { self.new ≡ holding returned.ticket }
     {
         let Returned { fault, ticket } = returned;
-        *self = Slot::Held(ticket);
+        *self = Slot {
+            ticket: Some(ticket),
+        };
         Answer::Refused(fault)
+    }
+
+    // How a turn ended that was to use up the ticket taken from here.
+    fn settle(&mut self, spent: Result<(), Returned>) -> Answer
+        requires { self.old ≡ free }
+        ensures { MatchResult spent (λ _. (result ≡ Answer.Done) × (self.new ≡ free))
+            (λ back. (result ≡ Answer.Refused back.fault) × (self.new ≡ holding back.ticket)) }
+    {
+        match spent {
+            Ok(()) => Answer::Done,
+            Err(returned) => self.restore(returned),
+        }
     }
 
     pub(crate) fn take_out(&mut self, job: &mut Job, nozzle: u8) -> Answer
         ensures { SlotTurn (fill self.old (take_out nozzle)) (state_of job.old) self.old result (state_of job.new) self.new }
     {
-        if let Slot::Held(_) = self {
+        if self.ticket.is_some() {
             return Answer::Skipped;
         }
         match job.take_out(nozzle) {
@@ -83,36 +82,30 @@ impl Slot {
     pub(crate) fn give_back(&mut self, job: &mut Job) -> Answer
         ensures { SlotTurn (spend self.old give_back) (state_of job.old) self.old result (state_of job.new) self.new }
     {
-        match self.take() {
-            None => Answer::Skipped,
-            Some(ticket) => match job.give_back(ticket) {
-                Ok(()) => Answer::Done,
-                Err(returned) => self.restore(returned),
-            },
-        }
+        let Some(ticket) = self.ticket.take() else {
+            return Answer::Skipped;
+        };
+        self.settle(job.give_back(ticket))
     }
 
     pub(crate) fn scrap(&mut self, job: &mut Job) -> Answer
         ensures { SlotTurn (spend self.old scrap) (state_of job.old) self.old result (state_of job.new) self.new }
     {
-        match self.take() {
-            None => Answer::Skipped,
-            Some(ticket) => match job.scrap(ticket) {
-                Ok(()) => Answer::Done,
-                Err(returned) => self.restore(returned),
-            },
-        }
+        let Some(ticket) = self.ticket.take() else {
+            return Answer::Skipped;
+        };
+        self.settle(job.scrap(ticket))
     }
 
     pub(crate) fn exchange(&mut self, job: &mut Job, nozzle: u8) -> Answer
         ensures { SlotTurn (spend self.old (λ number own. exchange number own nozzle)) (state_of job.old) self.old result (state_of job.new) self.new }
     {
-        match self.take() {
-            None => Answer::Skipped,
-            Some(ticket) => match job.exchange(ticket, nozzle) {
-                Ok(new) => self.put(new),
-                Err(returned) => self.restore(returned),
-            },
+        let Some(ticket) = self.ticket.take() else {
+            return Answer::Skipped;
+        };
+        match job.exchange(ticket, nozzle) {
+            Ok(new) => self.put(new),
+            Err(returned) => self.restore(returned),
         }
     }
 }

@@ -1,5 +1,5 @@
 use Rattle.std.proofs.Common.{◌+◌, ◌<◌, map, length, take, drop, refl, ap, arith, rules}
-use Rattle.std.proofs.lemmas.List.{take_more, take_more_set, drop-set-lt, drop-drop}
+use Rattle.std.proofs.lemmas.List.{get_or-take, length-take, take_more, take_more_set, drop-set-lt, drop-drop}
 use Rattle.job.specs.Jobs.{state_of}
 use Rattle.job.proofs.Always.{kept_of}
 use Rattle.desk.specs.declared.Request.TheVariants.{EnterQuantity}
@@ -13,10 +13,14 @@ loop-i-init g c = (stop, refl)
 
 pub loop-i-preserved : goal.loop-i-preserved
 loop-i-preserved g c =
+    let n = c.min-n.result in
+    let requests = c.args.requests.now in
+    let few : c.loop-i.i < n = omega (arith, length-take n requests) in
     let in-answers : c.loop-i.i < length c.loop-i.answers = omega arith in
-    let in-requests : c.loop-i.i < length c.args.requests.now = omega arith in
+    let in-requests : c.loop-i.i < length requests = omega arith in
+    let one = rw (get_or-take n requests c.loop-i.i (EnterQuantity 0 0) few) at c.carry_one.ensures in
     let past : c.loop-i.i < c.loop-i.i + 1 = omega arith in (
-      rw (take_more c.args.requests.now c.loop-i.i (EnterQuantity 0 0), take_more_set) (carried_more _ _ c.loop-i.invariant.0 c.carry_one.ensures),
+      rw (take_more requests c.loop-i.i (EnterQuantity 0 0), take_more_set) (carried_more _ _ c.loop-i.invariant.0 one),
       rw (drop-set-lt, ← drop-drop, ← drop-drop) (ap (drop 1) c.loop-i.invariant.1),
     )
 

@@ -1,9 +1,7 @@
-use Rattle.std.proofs.Common.{rules}
-use Rattle.job.proofs.Always.{kept_of}
+use Rattle.std.proofs.Common.{sym, ◌∙◌}
+use Rattle.book.specs.Turns.{scrap}
+use Rattle.desk.proofs.Spent.{spent_slot}
 use Rattle.desk.proofs.slots.Slot.scrap.Goals as goal
 
-pub returns-in-Ok : goal.returns-in-Ok
-returns-in-Ok c = let k = kept_of c.scrap.new.self in search rules
-
-pub returns-in-Err : goal.returns-in-Err
-returns-in-Err c = let k = kept_of c.scrap.new.self in search rules
+pub returns : goal.returns
+returns c = spent_slot scrap _ _ _ _ _ _ _ (sym c.take.ensures.value ∙ c.in-Some.is) c.scrap.ensures c.settle.ensures
