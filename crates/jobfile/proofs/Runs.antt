@@ -1,40 +1,18 @@
 -- One record more of a run of records, and a file's parts together.
 use Rattle.std.proofs.Common.{◌≡◌, ℕ, zero, suc, ◌+◌, ◌-◌, ◌<◌, List, [], ◌∷◌, length, refl, ap, ◌∙◌, arith}
-use Rattle.jobfile.specs.declared.parsing.Stop.{Stop}
-use Rattle.jobfile.specs.declared.parsing.Stop.TheVariants.{Short, Bad}
 use Rattle.jobformat.specs.Reading.{Parse, got, short, bad, then, header, entry, records, run, or_else, file, forget}
 use Rattle.jobformat.specs.Format.{Entry}
-use Rattle.jobfile.specs.Seen.{stopped}
 
 forget_more : (e : Entry) (g : Parse (List Entry)) → forget (then g (λ es end. got (e ∷ es) end)) ≡ forget g
 forget_more e (got es rest) = refl
 forget_more e short = refl
 forget_more e (bad n) = refl
 
-forget_stopped : {X Y : Type 0} (s : Stop) (f : X → List ℕ → Parse Y) → stopped s ≡ forget (then (stopped s) f)
-forget_stopped Short f = refl
-forget_stopped (Bad n) f = refl
-
 less : (n i : ℕ) → i < n → n - i ≡ suc (n - (i + 1))
 less n i h = omega arith
 
 pub skip_one : (r n i : ℕ) (bs after : List ℕ) (e : Entry) → i < n → got e after ≡ entry r bs → forget (records r (n - i) bs) ≡ forget (records r (n - (i + 1)) after)
 skip_one r n i bs after e h p = rw (less n i h, ← p) (forget_more e _)
-
-pub skip_stop : (r n i : ℕ) (bs : List ℕ) (s : Stop) → i < n → stopped s ≡ entry r bs → stopped s ≡ forget (records r (n - i) bs)
-skip_stop r n i bs s h p = rw (less n i h, ← p) (forget_stopped s _)
-
-pub skip_none : (r n i : ℕ) (bs : List ℕ) → n - i ≡ 0 → forget (records r (n - i) bs) ≡ got tt bs
-skip_none r n i bs h = rw h
-
--- a reader's next record
-pub run_one : (r n : ℕ) (bs after : List ℕ) (e : Entry) → 0 < n → got e after ≡ entry r bs → run r n bs ≡ e ∷ run r (n - 1) after
-run_one r n bs after e h p = let k : n ≡ suc (n - 1) = omega arith in ap (λ m. run r m bs) k ∙ rw (← p)
-
-pub run_none : (r n : ℕ) (bs : List ℕ) (s : Stop) → stopped s ≡ entry r bs → run r n bs ≡ []
-run_none r zero bs s p = refl
-run_none r (suc n) bs Short p = rw (← p)
-run_none r (suc n) bs (Bad m) p = rw (← p)
 
 -- records that were all read are the run
 grown : (e : Entry) (es : List Entry) (g : Parse (List Entry)) (rest : List ℕ) → then g (λ es end. got (e ∷ es) end) ≡ got es rest → (fs : List Entry) × (g ≡ got fs rest) × (e ∷ fs ≡ es)

@@ -1,18 +1,12 @@
 -- Writes one after another.
-use Rattle.std.proofs.Common.{◌≡◌, ℕ, ◌+◌, ◌≤◌, List, [], ◌∷◌, ◌++◌, length, take, Some, None, sym, refl, ap, ◌∙◌, append_assoc, append-nil, add-zero, arith, length-append, take_all}
+use Rattle.std.proofs.Common.{◌≡◌, ℕ, ◌+◌, ◌≤◌, List, [], ◌∷◌, ◌++◌, length, take, sym, refl, ap, ◌∙◌, arith, length-append, take_all}
 use lib.Seq.{paste}
-use Rattle.std.proofs.lemmas.List.Edits.{paste_none, paste-paste, take-paste, length-paste}
+use Rattle.std.proofs.lemmas.List.Edits.{paste-paste, take-paste, length-paste}
 use Rattle.std.proofs.lemmas.List.{flat_map_more}
-use Rattle.records.specs.declared.TypeRecord.{TypeRecord}
-use Rattle.jobfile.specs.declared.entry.Record.{Record}
-use Rattle.jobformat.specs.Format.{Entry, number_bytes, mask_bytes, map_of, encode, Fine, AllFine}
+use Rattle.jobformat.specs.Format.{Entry, encode, Fine, AllFine}
 use Rattle.jobfile.specs.Writes.{over, Wrote}
 use Rattle.jobfile.specs.declared.writer.Writer.{Writer}
 use Rattle.jobfile.specs.Written.{Holds}
-use Rattle.jobfile.specs.Seen.{entry_of, fields_of, name_of}
-
-pub wrote_none : (d : List ℕ) (at : ℕ) → Wrote d at [] d at
-wrote_none d at = record { out = paste_none d at []; end = sym (add-zero at) }
 
 pub wrote_then : {d : List ℕ} {at : ℕ} {xs d₁ : List ℕ} {a₁ : ℕ} {ys d₂ : List ℕ} {a₂ : ℕ} → at ≤ length d → Wrote d at xs d₁ a₁ → Wrote d₁ a₁ ys d₂ a₂ → Wrote d at (xs ++ ys) d₂ a₂
 wrote_then {d = d} {at = at} {xs = xs} {ys = ys} h v w =
@@ -21,18 +15,6 @@ wrote_then {d = d} {at = at} {xs = xs} {ys = ys} h v w =
       out = w.out ∙ (λ i. over (v.out i) (v.end i) ys) ∙ paste-paste d at xs ys (length xs) (length ys) refl refl h ∙ ap (λ n. paste d at (xs ++ ys) n) (sym long);
       end = omega (arith, v.end, w.end);
     }
-
-pub bare_list : (m : ℕ) (q k l : List ℕ) → (((m ∷ []) ++ q) ++ k) ++ l ≡ m ∷ (q ++ (k ++ (l ++ [])))
-bare_list m q k l = simp (append_assoc, append-nil)
-
-pub named_list : (m c : ℕ) (q k l n : List ℕ) → (((((m ∷ []) ++ q) ++ k) ++ l) ++ (c ∷ [])) ++ n ≡ m ∷ (q ++ (k ++ (l ++ (c ∷ n))))
-named_list m c q k l n = simp append_assoc
-
-pub bare_bytes : (e : Record) (f : TypeRecord) (m : ℕ) → name_of e ≡ None → f ≡ fields_of e → m ≡ map_of (entry_of e) → (((m ∷ []) ++ number_bytes f.quantity) ++ mask_bytes f.mask) ++ number_bytes f.limit ≡ encode (entry_of e)
-bare_bytes e f m is p q = bare_list m (number_bytes f.quantity) (mask_bytes f.mask) (number_bytes f.limit) ∙ rw (q, p, is)
-
-pub named_bytes : (e : Record) (f : TypeRecord) (m : ℕ) (n : List ℕ) → name_of e ≡ Some n → f ≡ fields_of e → m ≡ map_of (entry_of e) → (((((m ∷ []) ++ number_bytes f.quantity) ++ mask_bytes f.mask) ++ number_bytes f.limit) ++ (length n ∷ [])) ++ n ≡ encode (entry_of e)
-named_bytes e f m n is p q = named_list m (length n) (number_bytes f.quantity) (mask_bytes f.mask) (number_bytes f.limit) n ∙ rw (q, p, is)
 
 fine_more : (r : ℕ) (es : List Entry) (e : Entry) → AllFine r es → Fine r e → AllFine r (es ++ e ∷ [])
 fine_more r [] e f g = (g, tt)

@@ -70,7 +70,7 @@ pub(crate) fn mask(bytes: &[u8], nozzles: u8) -> Result<(u8, &[u8]), Stop>
 pub(crate) fn is_graphic(byte: u8) -> bool
     ensures { result ≡ graphic byte }
 {
-    33 <= byte && byte <= 126
+    (33..=126).contains(&byte)
 }
 
 /// The first `n` bytes, which are graphics, and what follows them.

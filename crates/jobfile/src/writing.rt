@@ -1,16 +1,14 @@
 // The bytes of a record, and writing bytes into lent memory.
 ghost use Rattle.std.specs.Prelude.{◌≡◌, ◌+◌, ◌≤◌, ◌++◌, true, length};
 ghost use Rattle.arrayvec.specs.ArrayVec.{array_vec_len};
-ghost use Rattle.jobformat.specs.Format.{number_bytes, mask_bytes, map_of, encode, all_graphic, name_fits, fits, TwoBytes};
+ghost use Rattle.jobformat.specs.Format.{map_of, encode, all_graphic, name_fits, fits, TwoBytes};
 ghost use Rattle.jobfile.specs.Seen.{entry_of, name_of};
 ghost use Rattle.jobfile.specs.Writes.{Wrote, field_bytes};
 
 use super::Record;
 use super::parsing::{LIMIT, MASK, NAME, QUANTITY, is_graphic, is_mask};
 use arrayvec::ArrayVec;
-
-/// The most bytes that a record takes.
-pub(crate) const LONGEST_RECORD: usize = 27;
+use jobformat::LONGEST_RECORD;
 
 pub(crate) fn all_graphic(name: &[u8]) -> bool
     ensures { result ≡ all_graphic name.now }
@@ -48,34 +46,10 @@ pub(crate) fn map_byte(entry: Record<'_>) -> u8
     ensures { result ≡ map_of (entry_of entry.entry) }
 {
     let fields = entry.fields();
-    let mut map = 0;
-    if fields.quantity.is_some() {
-        map += QUANTITY;
-    }
-    if fields.mask.is_some() {
-        map += MASK;
-    }
-    if fields.limit.is_some() {
-        map += LIMIT;
-    }
-    if let Record::Named { .. } = entry {
-        map += NAME;
-    }
-    map
-}
-
-/// A number of two bytes, the low one first.
-fn number_field(n: Option<u16>) -> Option<[u8; 2]>
-    ensures bytes { field_bytes result ≡ number_bytes n }
-    ensures small { TwoBytes n }
-{
-    n.map(u16::to_le_bytes)
-}
-
-fn mask_field(mask: Option<u8>) -> Option<[u8; 1]>
-    ensures { field_bytes result ≡ mask_bytes mask }
-{
-    mask.map(u8::to_le_bytes)
+    u8::from(fields.quantity.is_some()) * QUANTITY
+        + u8::from(fields.mask.is_some()) * MASK
+        + u8::from(fields.limit.is_some()) * LIMIT
+        + u8::from(matches!(entry, Record::Named { .. })) * NAME
 }
 
 /// Adds a field, if there is one, behind the others.
@@ -105,9 +79,9 @@ pub(crate) fn record_bytes(entry: Record<'_>) -> ArrayVec<u8, LONGEST_RECORD>
     let fields = entry.fields();
     let mut bytes = ArrayVec::new();
     bytes.push(map_byte(entry));
-    add_field(number_field(fields.quantity), &mut bytes);
-    add_field(mask_field(fields.mask), &mut bytes);
-    add_field(number_field(fields.limit), &mut bytes);
+    add_field(fields.quantity.map(u16::to_le_bytes), &mut bytes);
+    add_field(fields.mask.map(u8::to_le_bytes), &mut bytes);
+    add_field(fields.limit.map(u16::to_le_bytes), &mut bytes);
     if let Record::Named { name, .. } = entry {
         bytes.push(name.len() as u8);
         add(name, &mut bytes);

@@ -15,8 +15,11 @@ pub const MOST_TYPES: u8 = 24;
 /// A file has 1 to so many nozzles.
 pub const MOST_NOZZLES: u8 = 8;
 
-/// The longest file in bytes: the two of its header, and 27 for each record.
-pub const LONGEST: usize = 2 + 27 * MOST_TYPES as usize;
+/// The longest record in bytes: its map, its fields, and a name of 20 bytes behind its length.
+pub const LONGEST_RECORD: usize = 27;
+
+/// The longest file in bytes: the two of its header, and its records.
+pub const LONGEST: usize = 2 + LONGEST_RECORD * MOST_TYPES as usize;
 
 /// A refusal of the file layer.
 #[derive(Clone, Copy, PartialEq, Eq, Debug)]

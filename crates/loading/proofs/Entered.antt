@@ -1,5 +1,5 @@
 -- What stands while the records of a file are entered.
-use Rattle.std.proofs.Common.{◌≡◌, ℕ, suc, ◌+◌, ◌-◌, ◌≤◌, true, not, ◌||◌, List, [], ◌∷◌, ◌++◌, map, length, set, replicate, is_some, Some, None, Ok, Option, Result, sym, refl, ap, ◌∙◌, subst, append_assoc, append-nil, arith}
+use Rattle.std.proofs.Common.{◌≡◌, ℕ, suc, ◌+◌, ◌-◌, true, not, ◌||◌, List, [], ◌∷◌, ◌++◌, map, length, set, replicate, is_some, Some, None, Ok, Option, Result, sym, refl, ap, ◌∙◌, subst, append_assoc, append-nil, arith}
 use Rattle.std.proofs.lemmas.List.{length-append, length-map, length-replicate, length_push, get_or_at, set_at, map_push}
 use Rattle.std.proofs.lemmas.Bool.{le-leb, and_parts, and_from, false≢true}
 use Rattle.jobformat.specs.declared.FileFault.{FileFault}
@@ -94,9 +94,6 @@ module _ (number : ℕ) (c : Contents) (s₀ s : State) (kind : ℕ) (e : Entry)
   h : Loading number c s₀ s kind (e ∷ es)
   h = subst (Loading number c s₀ s kind) is at
 
-  pub loading_few : kind ≤ 24
-  loading_few = omega (arith, h.place, h.formed.few_types, h.formed.count, ap length h.split, length-append h.front (e ∷ es))
-
   -- the book has the type, and can take what the record holds
   pub loading_known : within kind (length s.book.types) ≡ true
   loading_known =
@@ -128,6 +125,11 @@ module _ (number : ℕ) (c : Contents) (s₀ s : State) (kind : ℕ) (e : Entry)
         state = entered number c.nozzles kind xs ys place e.quantity e.mask e.limit limited r h.state ∙ ap (λ l. fresh (book_with number l c.nozzles)) types;
         turns = subst (λ ts. Run s₀ ts s') (sym (entries_push 1 kind h.front e h.place)) (turns_then h.turns r);
       }
+
+-- the numbers go up to 24, and there are no more records than numbers
+pub loading_none_left : (number : ℕ) (c : Contents) (s₀ s : State) (kind end : ℕ) (es : List Entry) → Loading number c s₀ s kind es → end ≡ 25 → end - kind ≡ 0 → es ≡ []
+loading_none_left number c s₀ s kind end [] h is none = refl
+loading_none_left number c s₀ s kind end (e ∷ es) h is none = absurd (omega (arith, h.place, h.formed.few_types, h.formed.count, ap length h.split, length-append h.front (e ∷ es)))
 
 -- the whole file is loaded
 loading_all : (number : ℕ) (c : Contents) (s₀ s : State) (kind : ℕ) → Loading number c s₀ s kind [] → (s ≡ fresh (loaded_book number c)) × Run s₀ (entries_turns 1 c.entries) s

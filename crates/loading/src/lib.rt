@@ -13,16 +13,7 @@ ghost use Rattle.loading.specs.Loaded.{entry_turns, Loads, LoadsByTurns};
 use book::JobFault;
 use job::Job;
 use jobfile::{Reader, Record};
-
-// A limit, if there is one, as a turn takes it.
-fn wide(limit: Option<u16>) -> Option<u32>
-    ensures { result ≡ limit }
-{
-    match limit {
-        Some(most) => Some(most as u32),
-        None => None,
-    }
-}
+use jobformat::MOST_TYPES;
 
 // Enters what a record of a well-formed file holds. What was not entered there is not entered here.
 fn enter(job: &mut Job, kind: u8, record: Record<'_>) -> Result<(), JobFault>
@@ -33,10 +24,10 @@ fn enter(job: &mut Job, kind: u8, record: Record<'_>) -> Result<(), JobFault>
 {
     let fields = record.fields();
     if let Some(quantity) = fields.quantity {
-        job.enter_quantity(kind, quantity as u32)?;
+        job.enter_quantity(kind, u32::from(quantity))?;
     }
     if let Some(mask) = fields.mask {
-        job.enter_mask(kind, mask, wide(fields.limit))?;
+        job.enter_mask(kind, mask, fields.limit.map(u32::from))?;
     }
     Ok(())
 }
@@ -48,12 +39,10 @@ pub fn load(job: &mut Job, number: u32, bytes: &[u8]) -> Result<(), JobFault>
     ensures turns { LoadsByTurns number (reading bytes.now) job.old job.new }
     ensures formed { Answers bytes.now (reading bytes.now) }
 {
-    let mut reader = Reader::open(bytes)?;
+    let reader = Reader::open(bytes)?;
     job.open(number, reader.types(), reader.nozzles())?;
-    let mut kind = 1;
-    while let Some(record) = reader.next() {
+    for (kind, record) in (1..MOST_TYPES + 1).zip(reader) {
         enter(job, kind, record)?;
-        kind += 1;
     }
     Ok(())
 }

@@ -1,4 +1,4 @@
-use Rattle.std.proofs.Common.{sym, refl, ap, ◌∙◌, subst, rules}
+use Rattle.std.proofs.Common.{◌≡◌, Some, sym, refl, ap, ◌∙◌, subst, rules}
 use Rattle.jobfile.specs.Seen.{fields_of}
 use Rattle.book.specs.Events.{Run}
 use Rattle.job.specs.declared.job.Job.{Job}
@@ -16,10 +16,11 @@ returns-in_ok-enter_mask c =
     let fields = c.fields-fields.ensures in
     let P : Job → Type 0 = λ j. Run s (quantity_turns t f.quantity) (state_of j) in
     let first : P c.match-fields.job = elim c.match-fields.branch [
-      | in-Some+in_ok-enter_quantity w ↦ subst P (sym w.job-is) (quantity_turn s (state_of w.enter_quantity.new.self) t w.in-Some.quantity f.quantity (sym (ap (λ f. f.quantity) fields) ∙ w.in-Some.is) w.in_ok-enter_quantity.ensures)
+      | in-Some+in_ok-enter_quantity w ↦ subst P (sym w.job-is) (quantity_turn s (state_of w.enter_quantity.new.self) t w.from.result f.quantity (sym (ap (λ f. f.quantity) fields) ∙ w.in-Some.is ∙ ap Some (sym w.from.ensures)) w.in_ok-enter_quantity.ensures)
       | in_default w ↦ subst P (sym w.job-is) (quantity_none s t f.quantity (sym (ap (λ f. f.quantity) fields) ∙ w.in_default.is))
     ] in
-    record { done = refl; turns = turns_then first (mask_turn (state_of c.match-fields.job) (state_of c.enter_mask.new.self) t c.in-Some-mask.mask f.mask c.wide.result f.limit (sym (ap (λ f. f.mask) fields) ∙ c.in-Some-mask.is) (c.wide.ensures ∙ ap (λ f. f.limit) fields) c.in_ok-enter_mask.ensures) }
+    let same : c.map.result ≡ c.fields-fields.result.limit = search rules in
+    record { done = refl; turns = turns_then first (mask_turn (state_of c.match-fields.job) (state_of c.enter_mask.new.self) t c.in-Some-mask.mask f.mask c.map.result f.limit (sym (ap (λ f. f.mask) fields) ∙ c.in-Some-mask.is) (same ∙ ap (λ f. f.limit) fields) c.in_ok-enter_mask.ensures) }
 
 pub returns-in_default-mask : goal.returns-in_default-mask
 returns-in_default-mask c =
@@ -29,7 +30,7 @@ returns-in_default-mask c =
     let fields = c.fields-fields.ensures in
     let P : Job → Type 0 = λ j. Run s (quantity_turns t f.quantity) (state_of j) in
     let first : P c.match-fields.job = elim c.match-fields.branch [
-      | in-Some+in_ok-enter_quantity w ↦ subst P (sym w.job-is) (quantity_turn s (state_of w.enter_quantity.new.self) t w.in-Some.quantity f.quantity (sym (ap (λ f. f.quantity) fields) ∙ w.in-Some.is) w.in_ok-enter_quantity.ensures)
+      | in-Some+in_ok-enter_quantity w ↦ subst P (sym w.job-is) (quantity_turn s (state_of w.enter_quantity.new.self) t w.from.result f.quantity (sym (ap (λ f. f.quantity) fields) ∙ w.in-Some.is ∙ ap Some (sym w.from.ensures)) w.in_ok-enter_quantity.ensures)
       | in_default w ↦ subst P (sym w.job-is) (quantity_none s t f.quantity (sym (ap (λ f. f.quantity) fields) ∙ w.in_default.is))
     ] in
     record { done = refl; turns = turns_then first (mask_none (state_of c.match-fields.job) t f.mask f.limit (sym (ap (λ f. f.mask) fields) ∙ c.in_default-mask.is)) }
