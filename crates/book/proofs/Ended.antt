@@ -11,7 +11,7 @@ use Rattle.limit_search.specs.declared.Step.{Step}
 use Rattle.limit_search.specs.declared.Found.{Found}
 use Rattle.limit_search.specs.Trails.{no_step, step_at, side_of, ShortStep, ShowsRuns, PlannedBy, ShortBy, Ends}
 use Rattle.sheets.specs.declared.NozzleState.{NozzleState}
-use Rattle.sheets.specs.declared.TypeRecord.{TypeRecord}
+use Rattle.records.specs.declared.TypeRecord.{TypeRecord}
 use Rattle.sheets.specs.declared.Order.{Order}
 use Rattle.sheets.specs.Sheets.{IsSheet, in_service}
 use Rattle.sheets.specs.Boards.{entered, total, node_count, may, supply, choice, board_arcs, sheet_of}

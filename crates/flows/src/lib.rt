@@ -7,14 +7,15 @@ ghost use Rattle.flows.specs.Flows.{capacity_under};
 ghost use Rattle.flows.specs.Laws.{LinearCapacity, Conservation, WeakDuality, TightCut, NoLimit, NextLimit, FewerCounted};
 
 /// What an arc can carry: a fixed amount, or the limit that a run is given.
-#[derive(Clone, Copy, PartialEq, Eq, Debug)]
+#[derive(Clone, Copy, PartialEq, Eq, Debug, Default)]
 pub enum Capacity {
     Fixed(u32),
+    #[default]
     Counted,
 }
 
 /// An arc from one node to another.
-#[derive(Clone, Copy, PartialEq, Eq, Debug)]
+#[derive(Clone, Copy, PartialEq, Eq, Debug, Default)]
 pub struct Arc {
     pub tail: u8,
     pub head: u8,

@@ -1,7 +1,7 @@
 -- What a job value is, by its book and by what its users see of its plan, and what its turns answer.
 use Rattle.std.specs.Prelude.{◌≡◌, ℕ, ◌-◌, Bool, true, false, List, [], map, length, take, drop, Some, None, Ok, Err, Result}
 use Rattle.sheets.specs.declared.NozzleState.{NozzleState}
-use Rattle.sheets.specs.declared.TypeRecord.{TypeRecord}
+use Rattle.records.specs.declared.TypeRecord.{TypeRecord}
 use Rattle.sheets.specs.declared.boards.Board.{Board}
 use Rattle.sheets.specs.Boards.{entered, sheet_of}
 use Rattle.sheets.specs.Made.{orders_of, nozzles_of}

@@ -1,5 +1,4 @@
 use Rattle.std.proofs.Common.{◌+◌, ◌%◌, ◌^◌, refl, ap, ◌∙◌, arith}
-use Rattle.std.proofs.lemmas.List.{length-take-le}
 use Rattle.limit_search.specs.declared.Found.{Found}
 use Rattle.limit_search.specs.declared.Found.TheVariants.{Planned, Short}
 use Rattle.limit_search.specs.Trails.{runs_of}
@@ -13,7 +12,7 @@ pub returns-in_err-found : goal.returns-in_err-found
 returns-in_err-found g c =
     let board = c.in_ok-board.board in
     let short = c.in_err-found.ensures.room.1 in
-    absurd (omega (arith, short, counted_few (orders_of board) (nozzles_of board) _ c.network-net.ensures.arcs, length-take-le board.nozzle_count board.nozzles (omega arith)))
+    absurd (omega (arith, short, counted_few (orders_of board) (nozzles_of board) _ c.network-net.ensures.arcs, board.few_nozzles))
 
 pub returns-in-Planned : goal.returns-in-Planned
 returns-in-Planned g c =
