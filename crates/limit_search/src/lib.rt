@@ -13,7 +13,7 @@ use network::{Amount, Answer, Cut, Engine, Network, NetworkFault, Side};
 
 /// One run: the limit, the size reached, and the side that shows it short, empty where it reached
 /// the wanted size.
-#[derive(Clone, Copy, PartialEq, Eq, Debug)]
+#[derive(Clone, Copy, PartialEq, Eq, Debug, Default)]
 pub struct Step {
     pub limit: u32,
     pub size: u32,

@@ -7,7 +7,7 @@ use crate::nets::Network;
 use flows::{Arc, Capacity};
 
 /// A set of nodes: node i is bit i.
-#[derive(Clone, Copy, PartialEq, Eq, Debug)]
+#[derive(Clone, Copy, PartialEq, Eq, Debug, Default)]
 pub struct Side {
     pub bits: u64,
 }
