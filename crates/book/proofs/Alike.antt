@@ -13,7 +13,7 @@ use Rattle.limit_search.specs.declared.Step.{Step}
 use Rattle.limit_search.specs.Trails.{step_at, side_of, ShortStep, ShowsRuns}
 use Rattle.sheets.specs.declared.NozzleState.{NozzleState}
 use Rattle.sheets.specs.declared.NozzleState.TheVariants.{InService, Out, Scrapped}
-use Rattle.sheets.specs.declared.TypeRecord.{TypeRecord}
+use Rattle.records.specs.declared.TypeRecord.{TypeRecord}
 use Rattle.sheets.specs.declared.Order.{Order}
 use Rattle.sheets.specs.Sheets.{IsSheet, serves, in_service, taken, type_at}
 use Rattle.sheets.specs.Boards.{order_at, nozzle_node, supply, choice, exit, join_to, when, picks, sheet_of}

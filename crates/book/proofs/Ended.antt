@@ -11,7 +11,7 @@ use Rattle.limit_search.specs.declared.Step.{Step}
 use Rattle.limit_search.specs.declared.Found.{Found}
 use Rattle.limit_search.specs.Trails.{no_step, step_at, side_of, ShortStep, ShowsRuns, PlannedBy, ShortBy, Ends}
 use Rattle.sheets.specs.declared.NozzleState.{NozzleState}
-use Rattle.sheets.specs.declared.TypeRecord.{TypeRecord}
+use Rattle.records.specs.declared.TypeRecord.{TypeRecord}
 use Rattle.sheets.specs.declared.Order.{Order}
 use Rattle.sheets.specs.Sheets.{IsSheet, in_service}
 use Rattle.sheets.specs.Boards.{entered, total, node_count, may, supply, choice, board_arcs, sheet_of}
@@ -119,11 +119,11 @@ module _ (types : List TypeRecord) (nozzles : List NozzleState) where
 
 -- what a search ended with, said of the book and not of the board that was made of it
 pub ends_in : (types : List TypeRecord) (nozzles : List NozzleState) (orders : List Order) (states : List NozzleState) → types ≡ map entered orders → nozzles ≡ states → (nodes W : ℕ) (arcs : List Arc)
-    → nodes ≡ node_count orders states → W ≡ total orders → arcs ≡ board_arcs orders states → (trail : List Step) (flow : List ℕ) (f g : Found) → f ≡ g → Ends nodes W arcs trail flow f
-    → Ends (nodes_in types nozzles) (total_in types) (arcs_in types nozzles) trail flow g
-ends_in types nozzles orders states e s nodes W arcs n w a trail flow f g is ends =
+    → nodes ≡ node_count orders states → W ≡ total orders → arcs ≡ board_arcs orders states → (trail : List Step) (flow : List ℕ) (f : Found) → Ends nodes W arcs trail flow f
+    → Ends (nodes_in types nozzles) (total_in types) (arcs_in types nozzles) trail flow f
+ends_in types nozzles orders states e s nodes W arcs n w a trail flow f ends =
     let back = sym (orders_are types orders e) in
-    subst₃ (λ (m v : ℕ) (l : List Arc). Ends m v l trail flow g) (n ∙ ap₂ node_count back (sym s)) (w ∙ ap total back) (a ∙ ap₂ board_arcs back (sym s)) (subst (Ends nodes W arcs trail flow) is ends)
+    subst₃ (λ (m v : ℕ) (l : List Arc). Ends m v l trail flow f) (n ∙ ap₂ node_count back (sym s)) (w ∙ ap total back) (a ∙ ap₂ board_arcs back (sym s)) ends
 
 -- a board's trail has room in nine places
 pub counted_few : (orders : List Order) (nozzles : List NozzleState) (arcs : List Arc) → arcs ≡ board_arcs orders nozzles → counted_arcs arcs ≤ length nozzles

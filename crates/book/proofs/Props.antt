@@ -9,7 +9,7 @@ use Rattle.network.specs.declared.sides.Cut.{Cut}
 use Rattle.limit_search.specs.declared.Step.{Step}
 use Rattle.limit_search.specs.Trails.{ShortStep, ShowsRuns, side_of}
 use Rattle.sheets.specs.declared.NozzleState.{NozzleState}
-use Rattle.sheets.specs.declared.TypeRecord.{TypeRecord}
+use Rattle.records.specs.declared.TypeRecord.{TypeRecord}
 use Rattle.sheets.specs.Sheets.{IsSheet, Within}
 use Rattle.book.specs.Keeps.{TrailKept, PlannedKept, ShortKept}
 

@@ -2,9 +2,11 @@
 use Rattle.std.specs.Prelude.{ℕ, ◌-◌, Bool, true, false, ◌&&◌, List, [], ◌∷◌, ◌++◌, replicate, Some, None, Option, nat_le, slice_index_or, slice_set}
 use Rattle.sheets.specs.declared.NozzleState.{NozzleState}
 use Rattle.sheets.specs.declared.NozzleState.TheVariants.{InService, Out, Scrapped}
-use Rattle.sheets.specs.declared.TypeRecord.{TypeRecord}
+use Rattle.records.specs.declared.TypeRecord.{TypeRecord}
 use Rattle.sheets.specs.declared.Order.{Order}
 use Rattle.sheets.specs.Sheets.{type_at}
+use Rattle.limit_search.specs.declared.Found.{Found}
+use Rattle.limit_search.specs.declared.Found.TheVariants.{Planned as FoundPlanned, Short as FoundShort}
 use Rattle.book.specs.declared.Outcome.{Outcome}
 use Rattle.book.specs.declared.Outcome.TheVariants.{None as Unplanned, Planned, Short}
 
@@ -56,6 +58,11 @@ with_nozzles b nozzles o = record { number = b.number; types = b.types; nozzles 
 
 abbrev pub with_outcome : Book → Outcome → Book
 with_outcome b o = with_nozzles b b.nozzles o
+
+-- how a planning ended, by how its search did
+abbrev pub outcome_of : Found → Outcome
+outcome_of (FoundPlanned cost runs) = Planned cost runs
+outcome_of (FoundShort limit cut runs) = Short runs cut
 
 -- the runs of a planning
 abbrev pub runs_of : Outcome → ℕ

@@ -8,7 +8,7 @@ use Rattle.network.specs.declared.sides.Cut.{Cut}
 use Rattle.limit_search.specs.declared.Step.{Step}
 use Rattle.limit_search.specs.Trails.{step_at, side_of, ShortStep, ShowsRuns}
 use Rattle.sheets.specs.declared.NozzleState.{NozzleState}
-use Rattle.sheets.specs.declared.TypeRecord.{TypeRecord}
+use Rattle.records.specs.declared.TypeRecord.{TypeRecord}
 use Rattle.sheets.specs.Sheets.{IsSheet, type_at, in_service}
 use Rattle.sheets.specs.Boards.{is_entered, total, node_count, board_arcs, exit}
 use Rattle.book.specs.Books.{orders_in}

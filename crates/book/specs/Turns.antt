@@ -1,6 +1,6 @@
 -- The turns of a job, and which of them its book refuses.
 use Rattle.std.specs.Prelude.{ℕ, suc, ◌^◌, Bool, true, cond, ◌&&◌, List, [], ◌∷◌, length, Some, None, Option, ◌==◌, nat_le, nat_lt}
-use Rattle.sheets.specs.declared.TypeRecord.{TypeRecord}
+use Rattle.records.specs.declared.TypeRecord.{TypeRecord}
 use Rattle.sheets.specs.Sheets.{serves}
 use Rattle.sheets.specs.Boards.{is_entered}
 use Rattle.book.specs.declared.Outcome.{Outcome}

@@ -6,6 +6,7 @@
 use network::Cut;
 
 mod faults;
+mod outcomes;
 
 pub use faults::JobFault;
 

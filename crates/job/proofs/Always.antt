@@ -1,6 +1,5 @@
 -- What every job keeps.
 use Rattle.std.proofs.Common.{◌≡◌, ℕ, ◌≤◌, ltb, List, length, take, None, refl, subst, arith}
-use Rattle.std.proofs.lemmas.List.{length-take-le}
 use Rattle.std.proofs.lemmas.Bool.Decides.{nat_tests}
 use Rattle.network.specs.declared.sides.Cut.{Cut}
 use Rattle.limit_search.specs.declared.Step.{Step}
@@ -49,7 +48,7 @@ few s (Planned cost runs) h k = omega (arith, k.trail.few, service_few s.book.no
 few s (Short runs cut) h k = omega (arith, k.1.trail.few, service_few s.book.nozzles)
 
 pub runs_few : (j : Job) → runs_of j.outcome ≤ 9
-runs_few j = few (state_of j) j.outcome (omega (arith, length-take-le j.nozzle_count j.nozzles (omega arith))) (kept_of j)
+runs_few j = few (state_of j) j.outcome j.few_nozzles (kept_of j)
 
 by_runs : (s : State) (o : Outcome) (n : ℕ) → Promise s o → step_refusal o n ≡ unless (ltb 0 (runs_of o)) NoPlan (unless (within n (runs_of o)) (NoSuchPart n) None)
 by_runs s Unplanned n k = refl

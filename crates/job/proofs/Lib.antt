@@ -1,3 +1,3 @@
-pub mod Fronts
 pub mod Always
 pub mod Shows
+pub mod Ends

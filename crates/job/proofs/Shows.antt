@@ -38,10 +38,6 @@ module _ (o : Outcome) (cost runs : ℕ) (is : o ≡ Planned cost runs) (n r pla
   pub fine : 1 ≤ n → n ≤ cost → r ≤ places → subtour_refusal o n r places ≡ None
   fine l h s = at_planned ∙ grind (arith, nat_tests)
 
--- how many nozzles the book has
-pub wide : (j : Job) → length (book_of j).nozzles ≡ j.nozzle_count
-wide j = length-take-le j.nozzle_count j.nozzles (omega arith)
-
 -- a plan in force is of a book in which nothing is missing
 planned_none : (s : State) (o : Outcome) (cost runs : ℕ) → o ≡ Planned cost runs → Promise s o → missing 1 s.book.types ≡ None
 planned_none s Unplanned cost runs e k = absurd (let z : ◌≡◌ {A = ℕ} 0 1 = cc in omega arith)

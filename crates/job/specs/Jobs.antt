@@ -1,7 +1,7 @@
 -- What a job value is, by its book and by what its users see of its plan, and what its turns answer.
 use Rattle.std.specs.Prelude.{◌≡◌, ℕ, ◌-◌, Bool, true, false, List, [], map, length, take, drop, Some, None, Ok, Err, Result}
 use Rattle.sheets.specs.declared.NozzleState.{NozzleState}
-use Rattle.sheets.specs.declared.TypeRecord.{TypeRecord}
+use Rattle.records.specs.declared.TypeRecord.{TypeRecord}
 use Rattle.sheets.specs.declared.boards.Board.{Board}
 use Rattle.sheets.specs.Boards.{entered, sheet_of}
 use Rattle.sheets.specs.Made.{orders_of, nozzles_of}
@@ -9,15 +9,16 @@ use Rattle.limit_search.specs.declared.Step.{Step}
 use Rattle.book.specs.declared.Outcome.{Outcome}
 use Rattle.book.specs.declared.Outcome.TheVariants.{None as Unplanned, Planned, Short}
 use Rattle.book.specs.declared.faults.JobFault.{JobFault}
+use Rattle.book.specs.declared.faults.JobFault.TheVariants.{NotOut}
 use Rattle.book.specs.Books.{Book, orders_in, runs_of, with_outcome}
-use Rattle.book.specs.Turns.{Turn, exchange, plan, show_subtour, show_step, refusal}
+use Rattle.book.specs.Turns.{Turn, take_out, plan, show_subtour, show_step, held_out, refusal}
 use Rattle.book.specs.Events.{State, done, gave, ended, row, step, Promise, IsEnd, Accepted}
 use Rattle.job.specs.declared.job.Job.{Job}
 use Rattle.job.specs.declared.job.Ticket.{Ticket}
 use Rattle.job.specs.declared.job.Returned.{Returned}
 
 abbrev pub book_of : Job → Book
-book_of j = record { number = j.number; types = take j.type_count j.types; nozzles = take j.nozzle_count j.nozzles; outcome = j.outcome }
+book_of j = record { number = j.number; types = j.types.items; nozzles = j.nozzles.items; outcome = j.outcome }
 
 -- the sheet of a plan in force, by the flow
 abbrev pub rows_by : Outcome → List TypeRecord → List NozzleState → List ℕ → List (List ℕ)
@@ -65,9 +66,16 @@ abbrev pub Found : Bool → ℕ → JobFault → Result ℕ JobFault → Type 0
 Found has n f (Ok i) = (has ≡ true) × (i ≡ n - 1)
 Found has n f (Err e) = (has ≡ false) × (e ≡ f)
 
--- an exchange that the book allows, and where the nozzle to take out stands
-abbrev pub Exchanged : Job → Ticket → ℕ → ℕ → Type 0
-Exchanged j ticket n i = (refusal (book_of j) (exchange ticket.job ticket.nozzle n) ≡ None) × (i ≡ n - 1)
+-- a nozzle in service may be taken out, and stands one place earlier in its table
+abbrev pub Serving : Job → ℕ → Result ℕ JobFault → Type 0
+Serving j n (Ok i) = (refusal (book_of j) (take_out n) ≡ None) × (i ≡ n - 1)
+Serving j n (Err f) = Refusing j (take_out n) f
+
+-- a ticket that is used up, whose nozzle is out and stands one place earlier in its table, or the
+-- same ticket handed back
+abbrev pub Released : Job → Ticket → Result ℕ Returned → Type 0
+Released j ticket (Ok i) = (held_out (book_of j) ticket.job ticket.nozzle ≡ true) × (i ≡ ticket.nozzle - 1)
+Released j ticket (Err e) = (held_out (book_of j) ticket.job ticket.nozzle ≡ false) × (e.fault ≡ NotOut ticket.nozzle) × (e.ticket ≡ ticket)
 
 -- a planning
 abbrev pub Ended : Job → Result Outcome JobFault → Job → Type 0

@@ -6,9 +6,11 @@ ghost use Rattle.book.specs.declared.Outcome.TheVariants.{Planned, Short};
 ghost use Rattle.book.specs.Books.{orders_in};
 ghost use Rattle.book.specs.Keeps.{PlannedKept, ShortKept};
 
+use arrayvec::ArrayVec;
 use book::{JobFault, Outcome};
 use limit_search::Step;
-use sheets::{NozzleState, TypeRecord};
+use records::TypeRecord;
+use sheets::NozzleState;
 
 mod plans;
 mod shows;
@@ -28,24 +30,20 @@ pub struct Returned {
     pub ticket: Ticket,
 }
 
-/// A job of 1 to 24 types and 1 to 8 nozzles, the first of each table. The flow and the trail are
-/// those of the outcome, and the last two facts are what it promises.
+/// A job of 1 to 24 types and 1 to 8 nozzles. The flow and the trail are those of the outcome, and
+/// the last two facts are what it promises.
 #[derive(Drop)]
 pub struct Job {
     number: u32,
-    type_count: u8,
-    nozzle_count: u8,
-    types: [TypeRecord; 24],
-    nozzles: [NozzleState; 8],
+    types: ArrayVec<TypeRecord, 24>,
+    nozzles: ArrayVec<NozzleState, 8>,
     outcome: Outcome,
     flow: [u32; 256],
     trail: [Step; 9],
-    ghost some_types: { 1 ≤ type_count },
-    ghost few_types: { type_count ≤ 24 },
-    ghost some_nozzles: { 1 ≤ nozzle_count },
-    ghost few_nozzles: { nozzle_count ≤ 8 },
-    ghost types_long: { length types ≡ 24 },
-    ghost nozzles_long: { length nozzles ≡ 8 },
-    ghost planned: { (cost runs : ℕ) → outcome ≡ Planned cost runs → ∥ PlannedKept (take type_count types) (take nozzle_count nozzles) (sheet_of (orders_in (take type_count types)) (take nozzle_count nozzles) flow cost) (take runs trail) cost runs ∥₁ },
-    ghost short: { (runs : ℕ) (cut : Cut) → outcome ≡ Short runs cut → ∥ ShortKept (take type_count types) (take nozzle_count nozzles) (take runs trail) runs cut ∥₁ },
+    ghost some_types: { 1 ≤ length types.items },
+    ghost few_types: { length types.items ≤ 24 },
+    ghost some_nozzles: { 1 ≤ length nozzles.items },
+    ghost few_nozzles: { length nozzles.items ≤ 8 },
+    ghost planned: { (cost runs : ℕ) → outcome ≡ Planned cost runs → ∥ PlannedKept types.items nozzles.items (sheet_of (orders_in types.items) nozzles.items flow cost) (take runs trail) cost runs ∥₁ },
+    ghost short: { (runs : ℕ) (cut : Cut) → outcome ≡ Short runs cut → ∥ ShortKept types.items nozzles.items (take runs trail) runs cut ∥₁ },
 }

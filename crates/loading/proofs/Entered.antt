@@ -5,7 +5,7 @@ use Rattle.std.proofs.lemmas.Bool.{le-leb, and_parts, and_from, false≢true}
 use Rattle.jobformat.specs.declared.FileFault.{FileFault}
 use Rattle.jobformat.specs.Format.{Entry, Contents, Fine, AllFine, WellFormed, FileOf, Answers, mask_fits}
 use Rattle.sheets.specs.declared.NozzleState.TheVariants.{InService}
-use Rattle.sheets.specs.declared.TypeRecord.{TypeRecord}
+use Rattle.records.specs.declared.TypeRecord.{TypeRecord}
 use Rattle.book.specs.declared.Outcome.TheVariants.{None as Unplanned}
 use Rattle.book.specs.Books.{Book, blank, opened_book, within, with_type, with_quantity, with_mask}
 use Rattle.book.specs.Turns.{Turn, opening, enter_quantity, enter_mask}

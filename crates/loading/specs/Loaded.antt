@@ -3,7 +3,7 @@ use Rattle.std.specs.Prelude.{◌≡◌, ℕ, suc, List, [], ◌∷◌, ◌++◌
 use Rattle.jobformat.specs.declared.FileFault.{FileFault}
 use Rattle.jobformat.specs.Format.{Entry, Contents}
 use Rattle.sheets.specs.declared.NozzleState.TheVariants.{InService}
-use Rattle.sheets.specs.declared.TypeRecord.{TypeRecord}
+use Rattle.records.specs.declared.TypeRecord.{TypeRecord}
 use Rattle.book.specs.declared.Outcome.TheVariants.{None as Unplanned}
 use Rattle.book.specs.declared.faults.JobFault.{JobFault}
 use Rattle.book.specs.declared.faults.JobFault.TheVariants.{File}

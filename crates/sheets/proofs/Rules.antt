@@ -1,5 +1,5 @@
 -- The network of a board keeps the rules of networks.
-use Rattle.std.proofs.Common.{◌≡◌, ℕ, suc, ◌+◌, ◌-◌, ◌<◌, ◌≤◌, true, eqb, List, [], length, Some, None, Option, refl, ap, arith}
+use Rattle.std.proofs.Common.{◌≡◌, ℕ, suc, ◌+◌, ◌-◌, ◌<◌, ◌≤◌, true, eqb, List, [], length, Some, None, Option, Ok, Err, Result, IsOk, refl, ap, arith}
 use Rattle.std.proofs.lemmas.Bool.{both_ways}
 use Rattle.std.proofs.lemmas.Bool.Decides.{nat_tests}
 use Rattle.flows.specs.declared.Arc.{Arc}
@@ -82,3 +82,8 @@ never s nodes arcs n a BadCount h = h (rw (n, a) (rules _ _ s).counts)
 never s nodes arcs n a (BadArc i) h = both_ways _ h.3 (rw (n, a) ((rules _ _ s).arcs i (omega (arith, h.1, ap length a))))
 never s nodes arcs n a TooLarge h = h
 never s nodes arcs n a (ShortTrail needed) h = h
+
+pub is_taken : {orders : List Order} {nozzles : List NozzleState} → Sized orders nozzles → (nodes : ℕ) (arcs : List Arc) → nodes ≡ node_count orders nozzles → arcs ≡ board_arcs orders nozzles
+    → (r : Result Unit NetworkFault) → ((f : NetworkFault) → r ≡ Err f → Refused nodes arcs f) → IsOk r
+is_taken s nodes arcs n a (Ok u) h = refl
+is_taken s nodes arcs n a (Err f) h = absurd (never s nodes arcs n a f (h f refl))

@@ -1,7 +1,7 @@
 -- The walk over the arcs that finds the piece i of each nozzle.
-use Rattle.std.proofs.Common.{◌≡◌, ℕ, zero, suc, ◌+◌, ◌-◌, ◌*◌, ◌<◌, ◌≤◌, Bool, true, false, cond, ◌&&◌, eqb, ltb, leb, List, [], ◌∷◌, ◌++◌, length, get_or, set, replicate, sym, refl, ap, ◌∙◌, inl, inr, append-nil, add-zero, add-suc, zero-add, add-one, arith, length-append, length-set, get_or-set_other, get_or-set_same, get_or-append-add}
+use Rattle.std.proofs.Common.{◌≡◌, ℕ, zero, suc, ◌+◌, ◌-◌, ◌*◌, ◌<◌, ◌≤◌, Bool, true, false, cond, ◌&&◌, eqb, ltb, leb, List, [], ◌∷◌, ◌++◌, length, get_or, drop, set, replicate, sym, refl, ap, ◌∙◌, subst, inl, inr, append-nil, add-zero, add-suc, zero-add, add-one, arith, length-append, length-set, get_or-set_other, get_or-set_same, get_or-append-add}
 use lib.ListN.{length-replicate, get_or-replicate}
-use Rattle.std.proofs.lemmas.List.{get_or_past, get_or_append_left, get_or-append_right}
+use Rattle.std.proofs.lemmas.List.{get_or_past, get_or_append_left, get_or-append_right, drop_more}
 use Rattle.std.proofs.lemmas.Bool.{cases_lt, cases_eq, eq-eqb, ne_eqb}
 use Rattle.std.proofs.lemmas.Bool.Decides.{nat_tests}
 use Rattle.flows.specs.declared.Arc.{Arc}
@@ -112,70 +112,81 @@ module _ (orders : List Order) (nozzles : List NozzleState) where
       ∙ join_at (choices orders nozzles t) no_arc j 0 (length nozzles) l some ∙ ap (λ b. get_or (when b (choice orders t j ∷ [])) 0 no_arc) m
 
   module _ (xs : List ℕ) (i : ℕ) where
-    -- the walk stands at the type t and the nozzle j, before the arc p
-    pub record Reached (t j p : ℕ) (left row : List ℕ) : Type 0 where
-      pub walked : Walked (board_arcs orders nozzles) xs first i p left row
+    -- the walk stands at the type t and the nozzle j, before the counts of the arcs from there on
+    pub record Reached (t j : ℕ) (counts left row : List ℕ) : Type 0 where
+      pub walked : Walked (board_arcs orders nozzles) xs first i (place t j) left row
       pub left_long : length left ≡ 8
       pub row_long : length row ≡ 8
-      pub stands : p ≡ place t j
-      pub few : p ≤ length orders + 8 * t + j
+      pub counts_are : counts ≡ drop (place t j) xs
+      pub few : place t j ≤ length orders + 8 * t + j
 
-    pub moved : (t j p q : ℕ) (left row u v : List ℕ) → Reached t j p left row → q ≡ p → u ≡ left → v ≡ row → Reached t j q u v
-    moved t j p q left row u v r e f g = rw (e, f, g) r
+    pub moved : (t j : ℕ) (counts left row rest u v : List ℕ) → Reached t j counts left row → rest ≡ counts → u ≡ left → v ≡ row → Reached t j rest u v
+    moved t j counts left row rest u v r e f g = rw (e, f, g) r
 
-    pub start : Reached 0 0 (length orders) (replicate 8 (i + 1)) (replicate 8 0)
-    start =
+    -- the same place, by other numbers
+    there : (t j u k : ℕ) (counts left row : List ℕ) → place u k ≡ place t j → place u k ≤ length orders + 8 * u + k → Reached t j counts left row → Reached u k counts left row
+    there t j u k counts left row e few r =
+        record {
+          walked = subst (λ p. Walked (board_arcs orders nozzles) xs first i p left row) (sym e) r.walked;
+          left_long = r.left_long;
+          row_long = r.row_long;
+          counts_are = r.counts_are ∙ ap (λ p. drop p xs) (sym e);
+          few = few;
+        }
+
+    pub start : (counts : List ℕ) → counts ≡ drop (length orders) xs → Reached 0 0 counts (replicate 8 (i + 1)) (replicate 8 0)
+    start counts from =
+        let at : place 0 0 ≡ length orders = omega (arith, supplies_many (length orders)) in
         let none : (j : ℕ) → brought (board_arcs orders nozzles) xs first i (first + j) (length orders) ≡ [] =
         λ j. rw zero-add at (skip (board_arcs orders nozzles) xs first i (first + j) 0 (length orders) (λ q l h e. omega (arith, supply_ends q (omega (arith, supplies_many (length orders)))))) in
         record {
-          walked = λ j h. rw (none j) (get_or-replicate 8 j (i + 1) 0 (omega arith) ∙ omega arith, get_or-replicate 8 j 0 0 (omega arith));
+          walked = λ j h. rw (at, none j) (get_or-replicate 8 j (i + 1) 0 (omega arith) ∙ omega arith, get_or-replicate 8 j 0 0 (omega arith));
           left_long = refl;
           row_long = refl;
-          stands = omega (arith, supplies_many (length orders));
+          counts_are = from ∙ ap (λ p. drop p xs) (sym at);
           few = omega arith;
         }
 
-    -- the arc from t to j
-    pub take_arc : (t j p y z : ℕ) (left row : List ℕ) → Reached t j p left row → t < length orders → j < length nozzles → j < 8 → may orders nozzles t j ≡ true
-        → y ≡ get_or left j 0 - get_or xs p 0 → z ≡ cond (ltb 0 (get_or left j 0) && leb (get_or left j 0) (get_or xs p 0)) (t + 1) (get_or row j 0)
-        → Reached t (j + 1) (p + 1) (set left j y) (set row j z)
-    take_arc t j p y z left row r h l few m ly oz =
-        let at = choice_at t j p h l m r.stands in
+    -- the arc from t to j, with the count x
+    pub take_arc : (t j x y z : ℕ) (counts rest left row : List ℕ) → Reached t j counts left row → t < length orders → j < length nozzles → j < 8 → may orders nozzles t j ≡ true
+        → place t j < length xs → counts ≡ x ∷ rest
+        → y ≡ get_or left j 0 - x → z ≡ cond (ltb 0 (get_or left j 0) && leb (get_or left j 0) x) (t + 1) (get_or row j 0)
+        → Reached t (j + 1) rest (set left j y) (set row j z)
+    take_arc t j x y z counts rest left row r h l few m within taken ly oz =
+        let p = place t j in
+        let at = choice_at t j p h l m refl in
+        let more = drop_more xs p 0 within in
+        let is : x ≡ get_or xs p 0 = cc (r.counts_are, more) in
+        let then : rest ≡ drop (p + 1) xs = cc (r.counts_are, more) in
+        let next : place t (j + 1) ≡ p + 1 = omega (arith, length_more (choices orders nozzles t) j, ap (λ b. length (when b (choice orders t j ∷ []))) m) in
         record {
-          walked = walk_on (board_arcs orders nozzles) xs first i p j (t + 1) y z left row r.walked (omega arith) (omega arith)
-              (ap (λ (a : Arc). a.head) at) (ap (λ (a : Arc). a.tail - 1) at ∙ omega arith) ly oz;
+          walked =
+              rw next
+              (walk_on (board_arcs orders nozzles) xs first i p j (t + 1) y z left row r.walked (omega arith) (omega arith)
+              (ap (λ (a : Arc). a.head) at) (ap (λ (a : Arc). a.tail - 1) at ∙ omega arith) (rw is at ly) (rw is at oz));
           left_long = length-set left j y ∙ r.left_long;
           row_long = length-set row j z ∙ r.row_long;
-          stands = omega (arith, length_more (choices orders nozzles t) j, ap (λ b. length (when b (choice orders t j ∷ []))) m);
+          counts_are = then ∙ ap (λ p. drop p xs) (sym next);
           few = omega arith;
         }
 
     -- there is no arc from t to j
-    pub no_arc_lem : (t j p : ℕ) (left row : List ℕ) → Reached t j p left row → may orders nozzles t j ≡ false → Reached t (j + 1) p left row
-    no_arc_lem t j p left row r m =
-        record {
-          walked = r.walked;
-          left_long = r.left_long;
-          row_long = r.row_long;
-          stands = omega (arith, length_more (choices orders nozzles t) j, ap (λ b. length (when b (choice orders t j ∷ []))) m);
-          few = omega arith;
-        }
+    pub no_arc_lem : (t j : ℕ) (counts left row : List ℕ) → Reached t j counts left row → may orders nozzles t j ≡ false → Reached t (j + 1) counts left row
+    no_arc_lem t j counts left row r m =
+        let same : place t (j + 1) ≡ place t j = omega (arith, length_more (choices orders nozzles t) j, ap (λ b. length (when b (choice orders t j ∷ []))) m) in
+        there t j t (j + 1) counts left row same (omega arith) r
 
     -- all nozzles are passed
-    pub next_type : (t j p : ℕ) (left row : List ℕ) → Reached t j p left row → j ≡ length nozzles → j ≤ 8 → Reached (t + 1) 0 p left row
-    next_type t j p left row r e l =
-        record {
-          walked = r.walked;
-          left_long = r.left_long;
-          row_long = r.row_long;
-          stands = omega (arith, length_more (choices_of orders nozzles) t, ap (λ n. length (join_to n (choices orders nozzles t))) e);
-          few = omega arith;
-        }
+    pub next_type : (t j : ℕ) (counts left row : List ℕ) → Reached t j counts left row → j ≡ length nozzles → j ≤ 8 → Reached (t + 1) 0 counts left row
+    next_type t j counts left row r e l =
+        let same : place (t + 1) 0 ≡ place t j = omega (arith, length_more (choices_of orders nozzles) t, ap (λ n. length (join_to n (choices orders nozzles t))) e) in
+        there t j (t + 1) 0 counts left row same (omega arith) r
 
     -- all types are passed: the row is found
-    pub finish : (t p : ℕ) (left row : List ℕ) → Reached t 0 p left row → t ≡ length orders → (j : ℕ) → j < 8 → get_or row j 0 ≡ get_or (picks (board_arcs orders nozzles) xs (nozzle_node orders j)) i 0
-    finish t p left row r e j h =
-        let stands : p ≡ length S + length C = omega (arith, r.stands, ap (λ n. length (join_to n (choices_of orders nozzles))) e) in
+    pub finish : (t : ℕ) (counts left row : List ℕ) → Reached t 0 counts left row → t ≡ length orders → (j : ℕ) → j < 8 → get_or row j 0 ≡ get_or (picks (board_arcs orders nozzles) xs (nozzle_node orders j)) i 0
+    finish t counts left row r e j h =
+        let p = place t 0 in
+        let stands : p ≡ length S + length C = omega (arith, ap (λ n. length (join_to n (choices_of orders nozzles))) e) in
         let all : p + (length (board_arcs orders nozzles) - p) ≡ length (board_arcs orders nozzles) = omega (arith, length-append S (C ++ E), length-append C E) in
         (r.walked j (omega arith)).1
         ∙ ap (λ l. get_or l i 0)

@@ -5,7 +5,7 @@ use Rattle.std.proofs.lemmas.List.{get_or-map}
 use Rattle.std.proofs.lemmas.Bool.{and_parts}
 use Rattle.flows.specs.Sums.{sum_to}
 use Rattle.sheets.specs.declared.NozzleState.{NozzleState}
-use Rattle.sheets.specs.declared.TypeRecord.{TypeRecord}
+use Rattle.records.specs.declared.TypeRecord.{TypeRecord}
 use Rattle.sheets.specs.declared.Order.{Order}
 use Rattle.sheets.specs.Sheets.{IsSheet, Within, type_at, is_member, in_service, entry, taken}
 use Rattle.sheets.specs.Boards.{entered, no_order, order_at, may}

@@ -6,7 +6,7 @@ use Rattle.flows.specs.declared.Capacity.TheVariants.{Fixed, Counted}
 use Rattle.flows.specs.Sums.{sum_to}
 use Rattle.flows.specs.Flows.{arc_at, inside}
 use Rattle.sheets.specs.declared.NozzleState.{NozzleState}
-use Rattle.sheets.specs.declared.TypeRecord.{TypeRecord}
+use Rattle.records.specs.declared.TypeRecord.{TypeRecord}
 use Rattle.sheets.specs.declared.Order.{Order}
 use Rattle.sheets.specs.Sheets.{in_service}
 

@@ -4,7 +4,7 @@ use Rattle.flows.specs.Sums.{sum_to, only}
 use Rattle.flows.specs.Flows.{IsFlow, Admits, size, counted_arcs}
 use Rattle.network.specs.Rules.{CountsOk, ArcsOk}
 use Rattle.sheets.specs.declared.NozzleState.{NozzleState}
-use Rattle.sheets.specs.declared.TypeRecord.{TypeRecord}
+use Rattle.records.specs.declared.TypeRecord.{TypeRecord}
 use Rattle.sheets.specs.declared.Order.{Order}
 use Rattle.sheets.specs.Sheets.{IsSheet, in_service, type_at}
 use Rattle.sheets.specs.Boards.{entered, total, node_count, board_arcs, sheet_of, order_at}

@@ -2,4 +2,3 @@ pub mod Sheets
 pub mod Boards
 pub mod Laws
 pub mod Made
-pub mod Listed

@@ -1,7 +1,7 @@
 -- What a board value holds, and why a book gives none.
-use Rattle.std.specs.Prelude.{◌≡◌, ℕ, ◌+◌, ◌<◌, ◌≤◌, true, false, List, length, take}
+use Rattle.std.specs.Prelude.{◌≡◌, ℕ, ◌+◌, ◌<◌, ◌≤◌, true, false, List, length}
 use Rattle.sheets.specs.declared.NozzleState.{NozzleState}
-use Rattle.sheets.specs.declared.TypeRecord.{TypeRecord}
+use Rattle.records.specs.declared.TypeRecord.{TypeRecord}
 use Rattle.sheets.specs.declared.Order.{Order}
 use Rattle.sheets.specs.declared.boards.Board.{Board}
 use Rattle.sheets.specs.declared.boards.BoardFault.{BoardFault}
@@ -11,10 +11,10 @@ use Rattle.sheets.specs.Boards.{is_entered}
 
 -- the orders and the nozzles of a board
 abbrev pub orders_of : Board → List Order
-orders_of b = take b.type_count b.orders
+orders_of b = b.orders.items
 
 abbrev pub nozzles_of : Board → List NozzleState
-nozzles_of b = take b.nozzle_count b.nozzles
+nozzles_of b = b.nozzles.items
 
 -- 1 to 24 types and 1 to 8 nozzles
 abbrev pub SizeOk : ℕ → ℕ → Type 0

@@ -5,7 +5,7 @@ use Rattle.flows.specs.Sums.{sum_to, only}
 use Rattle.flows.specs.Flows.{inside}
 use Rattle.sheets.specs.declared.NozzleState.{NozzleState}
 use Rattle.sheets.specs.declared.NozzleState.TheVariants.{InService, Out, Scrapped}
-use Rattle.sheets.specs.declared.TypeRecord.{TypeRecord}
+use Rattle.records.specs.declared.TypeRecord.{TypeRecord}
 
 -- what is entered of the type t; nothing past the last type
 abbrev pub type_at : List TypeRecord → ℕ → TypeRecord

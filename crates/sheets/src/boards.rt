@@ -1,7 +1,8 @@
 // A board to plan: complete orders, and the states of the nozzles.
-ghost use Rattle.std.specs.Prelude.{◌≡◌, ◌≤◌, length};
+ghost use Rattle.std.specs.Prelude.{◌≤◌, length};
 
 use crate::{NozzleState, Order};
+use arrayvec::ArrayVec;
 
 mod calls;
 
@@ -13,17 +14,14 @@ pub enum BoardFault {
     NotEntered { kind: u8 },
 }
 
-/// A board: 1 to 24 orders and 1 to 8 nozzles, the first of each table.
+/// A board: 1 to 24 orders and 1 to 8 nozzles. The unused places of the orders' table hold the
+/// first order.
 #[derive(Drop)]
 pub struct Board {
-    orders: [Order; 24],
-    type_count: u8,
-    nozzles: [NozzleState; 8],
-    nozzle_count: u8,
-    ghost some_types: { 1 ≤ type_count },
-    ghost few_types: { type_count ≤ 24 },
-    ghost some_nozzles: { 1 ≤ nozzle_count },
-    ghost few_nozzles: { nozzle_count ≤ 8 },
-    ghost orders_long: { length orders ≡ 24 },
-    ghost nozzles_long: { length nozzles ≡ 8 },
+    orders: ArrayVec<Order, 24, Order>,
+    nozzles: ArrayVec<NozzleState, 8>,
+    ghost some_types: { 1 ≤ length orders.items },
+    ghost few_types: { length orders.items ≤ 24 },
+    ghost some_nozzles: { 1 ≤ length nozzles.items },
+    ghost few_nozzles: { length nozzles.items ≤ 8 },
 }

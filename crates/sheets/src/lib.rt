@@ -4,27 +4,20 @@
 ghost use Rattle.std.specs.Prelude.{◌≡◌, true};
 ghost use Rattle.sheets.specs.Laws.{NoSheetOfAGap, SheetGivesFlow, FlowGivesSheet, NoneFewer, NoSheet, BoardKeepsRules};
 
-mod arc_list;
 mod boards;
 mod orders;
 
 pub use boards::{Board, BoardFault};
+pub use orders::NotEntered;
+pub use records::TypeRecord;
 
 /// The state of a nozzle.
-#[derive(Clone, Copy, PartialEq, Eq, Debug)]
+#[derive(Clone, Copy, PartialEq, Eq, Debug, Default)]
 pub enum NozzleState {
+    #[default]
     InService,
     Out,
     Scrapped,
-}
-
-/// What is entered of a component type: `None` is not entered, or no limit, and never 0. Bit j - 1
-/// of the mask stands for nozzle j.
-#[derive(Clone, Copy, PartialEq, Eq, Debug)]
-pub struct TypeRecord {
-    pub quantity: Option<u16>,
-    pub mask: Option<u8>,
-    pub limit: Option<u16>,
 }
 
 /// A type of which all is entered that a plan needs.

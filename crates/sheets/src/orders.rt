@@ -1,24 +1,40 @@
 // What an order asks for, and which nozzles may take it.
-ghost use Rattle.std.specs.Prelude.{◌≡◌, ℕ, ◌<◌, ◌≤◌, false, ◌&&◌, Some, None};
+ghost use Rattle.std.specs.Prelude.{◌≡◌, ℕ, ◌<◌, ◌≤◌, false, ◌&&◌, Some, MatchResult};
 ghost use Rattle.flows.specs.Flows.{inside};
 ghost use Rattle.sheets.specs.Sheets.{serves};
 ghost use Rattle.sheets.specs.Boards.{entered, is_entered, most_of};
 
-use crate::{NozzleState, Order, TypeRecord};
+use crate::{NozzleState, Order};
+use records::TypeRecord;
+use std::default::MadeWith;
 
-impl TypeRecord {
-    /// The order, where a quantity and a mask were entered.
-    pub(crate) fn order(&self) -> Option<Order>
-        ensures { elim result [ Some o ↦ self.now ≡ entered o | None ↦ is_entered self.now ≡ false ] }
-    {
-        match (self.quantity, self.mask) {
-            (Some(quantity), Some(mask)) => Some(Order {
+/// Why a record is no order: a quantity or a mask was not entered.
+#[derive(Clone, Copy, PartialEq, Eq, Debug)]
+pub struct NotEntered;
+
+impl TryFrom<TypeRecord> for Order {
+    type Error = NotEntered;
+
+    ghost try_from_gives = { λ x r. MatchResult r (λ o. x ≡ entered o) (λ _. is_entered x ≡ false) };
+
+    fn try_from(record: TypeRecord) -> Result<Order, NotEntered> {
+        match (record.quantity, record.mask) {
+            (Some(quantity), Some(mask)) => Ok(Order {
                 quantity,
                 mask,
-                limit: self.limit,
+                limit: record.limit,
             }),
-            _ => None,
+            _ => Err(NotEntered),
         }
+    }
+}
+
+// What fills the unused places of a table of orders: an order that was entered, and no invented one.
+impl MadeWith<Order> for Order {
+    fn made_with(first: Order) -> Order
+        ensures { result ≡ first }
+    {
+        first
     }
 }
 
@@ -27,10 +43,7 @@ impl NozzleState {
     pub(crate) fn is_in_service(&self) -> bool
         ensures { result ≡ serves self.now }
     {
-        match self {
-            NozzleState::InService => true,
-            NozzleState::Out | NozzleState::Scrapped => false,
-        }
+        *self == NozzleState::InService
     }
 }
 
@@ -40,7 +53,7 @@ impl Order {
         ensures value { result ≡ self.now.quantity }
         ensures small { result ≤ 65535 }
     {
-        self.quantity as u32
+        u32::from(self.quantity)
     }
 
     /// What one nozzle may take: the limit, or all pieces of the board.
@@ -49,7 +62,7 @@ impl Order {
         ensures small { (m : ℕ) → self.now.limit ≡ Some m → m ≤ 65535 }
     {
         match self.limit {
-            Some(limit) => limit as u32,
+            Some(limit) => u32::from(limit),
             None => all,
         }
     }

@@ -5,7 +5,7 @@ use Rattle.std.proofs.lemmas.Bool.Decides.{nat_tests}
 use Rattle.flows.specs.Sums.{sum_to, only}
 use Rattle.flows.proofs.Sums.{sum_le, sum_same}
 use Rattle.sheets.specs.declared.NozzleState.{NozzleState}
-use Rattle.sheets.specs.declared.TypeRecord.{TypeRecord}
+use Rattle.records.specs.declared.TypeRecord.{TypeRecord}
 use Rattle.sheets.specs.Sheets.{IsSheet, entry, taken}
 use Rattle.sheets.proofs.Sums.{swap, sum_most, only_le}
 use Rattle.sheets.proofs.Whole.{quantity_of, to_whole}

@@ -3,7 +3,7 @@ use Rattle.std.proofs.Common.{◌≡◌, ℕ, suc, ◌-◌, true, false, ◌&&�
 use Rattle.std.proofs.lemmas.Bool.{both_ways}
 use Rattle.flows.specs.Flows.{FromSource}
 use Rattle.sheets.specs.declared.NozzleState.{NozzleState}
-use Rattle.sheets.specs.declared.TypeRecord.{TypeRecord}
+use Rattle.records.specs.declared.TypeRecord.{TypeRecord}
 use Rattle.sheets.specs.declared.Order.{Order}
 use Rattle.sheets.specs.Boards.{entered, board_arcs}
 use Rattle.sheets.proofs.Arcs.{from_parts}

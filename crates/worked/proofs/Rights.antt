@@ -6,7 +6,7 @@ use Rattle.flows.specs.Flows.{inside, fixed_across, counted_across}
 use Rattle.network.specs.declared.sides.Cut.{Cut}
 use Rattle.limit_search.specs.declared.Step.{Step}
 use Rattle.limit_search.specs.Trails.{step_at, side_of}
-use Rattle.sheets.specs.declared.TypeRecord.{TypeRecord}
+use Rattle.records.specs.declared.TypeRecord.{TypeRecord}
 use Rattle.sheets.specs.Sheets.{IsSheet, type_at}
 use Rattle.sheets.specs.Boards.{is_entered}
 use Rattle.book.specs.declared.faults.JobFault.TheVariants.{NotEntered}

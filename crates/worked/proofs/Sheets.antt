@@ -3,7 +3,7 @@ use Rattle.std.proofs.Common.{◌≡◌, ℕ, zero, suc, ◌<◌, true, false, L
 use Rattle.std.proofs.lemmas.Bool.{both_ways}
 use Rattle.flows.specs.Sums.{sum_to}
 use Rattle.sheets.specs.declared.NozzleState.{NozzleState}
-use Rattle.sheets.specs.declared.TypeRecord.{TypeRecord}
+use Rattle.records.specs.declared.TypeRecord.{TypeRecord}
 use Rattle.sheets.specs.Sheets.{IsSheet, Within, type_at, is_member, in_service, entry, taken}
 use Rattle.worked.proofs.Tests.{Test, yes, equal, at_most, less, also, each, Says}
 

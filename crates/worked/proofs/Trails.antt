@@ -8,7 +8,7 @@ use Rattle.flows.proofs.Cuts.{linear, no_limit, next_limit_lem}
 use Rattle.limit_search.specs.declared.Step.{Step}
 use Rattle.limit_search.specs.Trails.{step_at, side_of, ShortStep, ShowsRuns}
 use Rattle.sheets.specs.declared.NozzleState.{NozzleState}
-use Rattle.sheets.specs.declared.TypeRecord.{TypeRecord}
+use Rattle.records.specs.declared.TypeRecord.{TypeRecord}
 use Rattle.sheets.specs.Sheets.{IsSheet}
 use Rattle.sheets.proofs.Fewest.{none_fewer, no_sheet}
 use Rattle.book.specs.Books.{orders_in}

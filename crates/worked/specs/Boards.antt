@@ -4,7 +4,7 @@ use Rattle.network.specs.declared.sides.Cut.{Cut}
 use Rattle.limit_search.specs.declared.Step.{Step}
 use Rattle.sheets.specs.declared.NozzleState.{NozzleState}
 use Rattle.sheets.specs.declared.NozzleState.TheVariants.{InService}
-use Rattle.sheets.specs.declared.TypeRecord.{TypeRecord}
+use Rattle.records.specs.declared.TypeRecord.{TypeRecord}
 
 -- a board: the bytes of its file, what they say of each type, and the states of the nozzles
 pub record Board : Type 0 where

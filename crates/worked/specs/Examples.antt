@@ -4,7 +4,7 @@ use Rattle.flows.specs.Sums.{sum_to, only, limit_step}
 use Rattle.network.specs.declared.sides.Cut.{Cut}
 use Rattle.limit_search.specs.declared.Step.{Step}
 use Rattle.sheets.specs.declared.NozzleState.TheVariants.{InService, Out}
-use Rattle.sheets.specs.declared.TypeRecord.{TypeRecord}
+use Rattle.records.specs.declared.TypeRecord.{TypeRecord}
 use Rattle.sheets.specs.Sheets.{IsSheet, entry}
 use Rattle.jobformat.specs.Format.{Entry, Contents, FileOf}
 use Rattle.book.specs.declared.Outcome.TheVariants.{None as Unplanned}

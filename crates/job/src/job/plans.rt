@@ -6,30 +6,16 @@ ghost use Rattle.job.specs.Jobs.{book_of, state_of, Boarded, Ended, Sought};
 
 use super::Job;
 use book::{JobFault, Outcome};
-use limit_search::{Found, Step, search};
+use limit_search::{Step, search};
 use network::Engine;
-use sheets::{Board, NozzleState, TypeRecord};
+use sheets::Board;
 
 impl Job {
-    // What was entered of each type.
-    fn types(&self) -> &[TypeRecord]
-        ensures { result.now ≡ (book_of self.now).types }
-    {
-        &self.types[0..self.type_count as usize]
-    }
-
-    // The states of the nozzles.
-    fn nozzles(&self) -> &[NozzleState]
-        ensures { result.now ≡ (book_of self.now).nozzles }
-    {
-        &self.nozzles[0..self.nozzle_count as usize]
-    }
-
     // The board of the book, of which nothing is missing.
     pub(super) fn board(&self) -> Result<Board, JobFault>
         ensures { Boarded self.now result }
     {
-        Ok(Board::of(self.types(), self.nozzles())?)
+        Ok(Board::of(self.types.as_slice(), self.nozzles.as_slice())?)
     }
 
     // Searches the network of the book for the least limit that admits all pieces.
@@ -45,10 +31,7 @@ impl Job {
         let board = self.board()?;
         let net = board.network();
         let found = search(&net, board.total(), engine, flow, trail)?;
-        Ok(match found {
-            Found::Planned { cost, runs } => Outcome::Planned { cost, runs },
-            Found::Short { cut, runs, .. } => Outcome::Short { runs, cut },
-        })
+        Ok(Outcome::from(found))
     }
 
     /// Plans the job with an engine, and keeps the outcome with its flow and its trail.

@@ -13,7 +13,7 @@ impl Job {
     pub fn nozzle_count(&self) -> u8
         ensures { (result ≡ length (book_of self.now).nozzles) × (result ≤ 8) }
     {
-        self.nozzle_count
+        self.nozzles.len() as u8
     }
 
     /// How the last planning ended, if nothing was changed since.
@@ -33,10 +33,10 @@ impl Job {
         let Outcome::Planned { cost, .. } = self.outcome else {
             return Err(JobFault::NoPlan);
         };
-        if subtour < 1 || subtour > cost {
+        if !(1..=cost).contains(&subtour) {
             return Err(JobFault::NoSuchPart { number: subtour });
         }
-        let needed = self.nozzle_count as usize;
+        let needed = self.nozzles.len();
         if out.len() < needed {
             return Err(JobFault::NoRoom { needed });
         }
@@ -65,7 +65,7 @@ impl Job {
         if runs == 0 {
             return Err(JobFault::NoPlan);
         }
-        if step < 1 || step as usize > runs {
+        if !(1..=runs).contains(&(step as usize)) {
             return Err(JobFault::NoSuchPart { number: step });
         }
         Ok(self.trail[step as usize - 1])

@@ -3,55 +3,35 @@ ghost use Rattle.std.specs.Prelude.{◌≡◌, ℕ, ◌<◌, ◌≤◌, ◌&&◌
 ghost use Rattle.network.specs.Nets.{arcs_of};
 ghost use Rattle.sheets.specs.Boards.{entered, total, node_count, board_arcs, piece_of, row_of};
 ghost use Rattle.sheets.specs.Laws.{Sized};
-ghost use Rattle.sheets.specs.Listed.{listed};
 ghost use Rattle.sheets.specs.Made.{orders_of, nozzles_of, Refused};
 
-use crate::arc_list::ArcList;
 use crate::boards::{Board, BoardFault};
-use crate::{NozzleState, Order, TypeRecord};
-use flows::Capacity;
+use crate::{NozzleState, Order};
+use arrayvec::ArrayVec;
+use flows::{Arc, Capacity};
 use network::{Amount, Network};
+use records::TypeRecord;
 
 impl Board {
     /// The board of a book, or why there is none. A figure that was not entered is never filled in.
     pub fn of(types: &[TypeRecord], nozzles: &[NozzleState]) -> Result<Board, BoardFault>
         ensures { elim result [ Ok b ↦ (types.now ≡ map entered (orders_of b)) × (nozzles.now ≡ nozzles_of b) | Err e ↦ Refused types.now nozzles.now e ] }
     {
-        if types.is_empty() || types.len() > 24 || nozzles.is_empty() || nozzles.len() > 8 {
+        if !(1..=24).contains(&types.len()) || !(1..=8).contains(&nozzles.len()) {
             return Err(BoardFault::BadSize);
         }
-        let Some(first) = types[0].order() else {
+        let Ok(first) = Order::try_from(types[0]) else {
             return Err(BoardFault::NotEntered { kind: 1 });
         };
-        let mut orders = [first; 24];
+        let mut orders = ArrayVec::new_in(first);
         for (t, record) in types.iter().enumerate() {
-            let Some(order) = record.order() else {
+            let Ok(order) = Order::try_from(*record) else {
                 return Err(BoardFault::NotEntered { kind: t as u8 + 1 });
             };
-            orders[t] = order;
+            orders.push(order);
         }
-        let mut states = [nozzles[0]; 8];
-        states[0..nozzles.len()].copy_from_slice(nozzles);
-        Ok(Board {
-            orders,
-            type_count: types.len() as u8,
-            nozzles: states,
-            nozzle_count: nozzles.len() as u8,
-        })
-    }
-
-    // The orders, one for each type.
-    fn orders(&self) -> &[Order]
-        ensures { result.now ≡ orders_of self.now }
-    {
-        &self.orders[0..self.type_count as usize]
-    }
-
-    // The states of the nozzles.
-    fn nozzles(&self) -> &[NozzleState]
-        ensures { result.now ≡ nozzles_of self.now }
-    {
-        &self.nozzles[0..self.nozzle_count as usize]
+        let nozzles = ArrayVec::try_from(nozzles).unwrap();
+        Ok(Board { orders, nozzles })
     }
 
     /// How many pieces all orders ask for.
@@ -59,40 +39,36 @@ impl Board {
         ensures { result.value ≡ total (orders_of self.now) }
     {
         let mut sum = 0;
-        let orders = self.orders();
-        for order in orders {
+        for order in self.orders.as_slice() {
             sum += order.pieces();
         }
-        match Amount::try_from(sum) {
-            Ok(all) => all,
-            Err(_fault) => unreachable(),
-        }
+        Amount::try_from(sum).unwrap()
     }
 
     // The arcs of the network, in order. Quantities and limits, as they are read, have two bytes.
-    fn arcs(&self) -> ArcList
-        ensures arcs { listed result ≡ board_arcs (orders_of self.now) (nozzles_of self.now) }
+    fn arcs(&self) -> ArrayVec<Arc, 256>
+        ensures arcs { result.items ≡ board_arcs (orders_of self.now) (nozzles_of self.now) }
         ensures sized { Sized (orders_of self.now) (nozzles_of self.now) }
     {
-        let orders = self.orders();
-        let nozzles = self.nozzles();
+        let orders = self.orders.as_slice();
+        let nozzles = self.nozzles.as_slice();
         let all = self.total().value();
         let first = orders.len() + 2;
-        let mut arcs = ArcList::empty();
+        let mut arcs = ArrayVec::new();
         for (t, order) in orders.iter().enumerate() {
-            arcs.add(0, (t + 2) as u8, Capacity::Fixed(order.pieces()));
+            arcs.push(arc(0, t + 2, Capacity::Fixed(order.pieces())));
         }
         for (t, order) in orders.iter().enumerate() {
             let most = order.most(all);
             for (j, nozzle) in nozzles.iter().enumerate() {
                 if order.goes_to(nozzle, j as u8) {
-                    arcs.add((t + 2) as u8, (first + j) as u8, Capacity::Fixed(most));
+                    arcs.push(arc(t + 2, first + j, Capacity::Fixed(most)));
                 }
             }
         }
         for (j, nozzle) in nozzles.iter().enumerate() {
             if nozzle.is_in_service() {
-                arcs.add((first + j) as u8, 1, Capacity::Counted);
+                arcs.push(arc(first + j, 1, Capacity::Counted));
             }
         }
         arcs
@@ -104,11 +80,10 @@ impl Board {
         ensures arcs { arcs_of result ≡ board_arcs (orders_of self.now) (nozzles_of self.now) }
     {
         let arcs = self.arcs();
+        let nodes = self.orders.len() + self.nozzles.len() + 2;
         let mut net = Network::empty();
-        match net.fill(self.type_count + self.nozzle_count + 2, arcs.as_slice()) {
-            Ok(()) => net,
-            Err(_fault) => unreachable(),
-        }
+        net.fill(nodes as u8, arcs.as_slice()).unwrap();
+        net
     }
 
     // What each nozzle takes in a subtour, numbered from 0, by one walk over the arcs from types to
@@ -117,20 +92,19 @@ impl Board {
         ensures long { length result ≡ 8 }
         ensures pieces { (j : ℕ) → j < 8 → slice_index result j ≡ piece_of (orders_of self.now) (nozzles_of self.now) flow.now subtour j }
     {
-        let orders = self.orders();
-        let nozzles = self.nozzles();
+        let orders = self.orders.as_slice();
+        let nozzles = self.nozzles.as_slice();
         // how many pieces each nozzle lacks, up to the one that it takes in this subtour
-        let mut left = [subtour as u64 + 1; 8];
+        let mut left = [u64::from(subtour) + 1; 8];
         let mut row = [0; 8];
         // the arcs from the source to the types come first
-        let mut arc = orders.len();
+        let mut counts = flow[orders.len()..].iter();
         for (t, order) in orders.iter().enumerate() {
             for (j, nozzle) in nozzles.iter().enumerate() {
                 if order.goes_to(nozzle, j as u8) {
-                    let count = flow[arc] as u64;
+                    let count = u64::from(*counts.next().unwrap());
                     row[j] = piece_after(left[j], count, t as u8 + 1, row[j]);
                     left[j] = left[j].saturating_sub(count);
-                    arc += 1;
                 }
             }
         }
@@ -144,8 +118,20 @@ impl Board {
         ensures rest { (k : ℕ) → length (nozzles_of self.now) ≤ k → slice_index out.new k ≡ slice_index out.old k }
     {
         let row = self.next_pieces(flow, subtour);
-        let count = out.len().min(self.nozzle_count as usize);
-        out[0..count].copy_from_slice(&row[0..count]);
+        let count = out.len().min(self.nozzles.len());
+        out[..count].copy_from_slice(&row[..count]);
+    }
+}
+
+// The arc between two nodes of a board's network.
+fn arc(tail: usize, head: usize, capacity: Capacity) -> Arc
+    requires { (tail < 256) × (head < 256) }
+    ensures { result ≡ record { tail = tail; head = head; capacity = capacity } }
+{
+    Arc {
+        tail: tail as u8,
+        head: head as u8,
+        capacity,
     }
 }
 

@@ -22,8 +22,6 @@ invariant_of-self g c =
       few_types = j.few_types;
       some_nozzles = j.some_nozzles;
       few_nozzles = j.few_nozzles;
-      types_long = j.types_long;
-      nozzles_long = j.nozzles_long;
       planned = planned_in b flow trail o k;
       short = short_in b flow trail o k;
     }

@@ -1,32 +1,30 @@
-use Rattle.std.proofs.Common.{◌≡◌, ◌-◌, ◌≤◌, length, sym, refl, ap, ◌∙◌, arith}
+use Rattle.std.proofs.Common.{◌≡◌, ◌-◌, ◌≤◌, length, sym, refl, ap, ◌∙◌, arith, rules}
 use Rattle.std.proofs.lemmas.List.FromFn.{length-map-range_with_len}
 use Rattle.sheets.specs.Boards.{row_of}
 use Rattle.sheets.specs.Made.{orders_of, nozzles_of}
 use Rattle.book.specs.Events.{row}
 use Rattle.job.specs.Jobs.{book_of}
 use Rattle.job.proofs.Always.{kept_of}
-use Rattle.job.proofs.Shows.{no_plan, bad_number, no_room, fine, wide, never_missing, row_is, front, back}
+use Rattle.job.proofs.Shows.{fine, never_missing, row_is, front, back}
 use Rattle.job.proofs.job.Job.show_subtour.Goals as goal
 
-pub returns-in_default : goal.returns-in_default
-returns-in_default c = record { shown = (no_plan _ _ _ _ c.in_default.not-Planned, refl); kept = kept_of c.args.self.now }
+pub returns-in_default-clause-kept : goal.returns-in_default-clause-kept
+returns-in_default-clause-kept c = kept_of c.args.self.now
 
-pub returns-then-subtour-lt1 : goal.returns-then-subtour-lt1
-returns-then-subtour-lt1 c =
-    record { shown = (bad_number _ c.in-Planned.cost c.in-Planned.runs c.in-Planned.is _ _ _ c.then-subtour-lt1.either, refl); kept = kept_of c.args.self.now }
+pub returns-then-not-contains-clause-kept : goal.returns-then-not-contains-clause-kept
+returns-then-not-contains-clause-kept c = kept_of c.args.self.now
 
-pub returns-then-out-needed : goal.returns-then-out-needed
-returns-then-out-needed c =
-    record {
-      shown = (no_room _ c.in-Planned.cost c.in-Planned.runs c.in-Planned.is _ _ _ c.if-subtour-lt1.false c.if-subtour-cost.false _ (wide c.args.self.now) c.if-out-needed.true, refl);
-      kept = kept_of c.args.self.now;
-    }
+pub returns-then-out-needed-clause-kept : goal.returns-then-out-needed-clause-kept
+returns-then-out-needed-clause-kept c = kept_of c.args.self.now
 
 pub returns-in_err-board : goal.returns-in_err-board
 returns-in_err-board c = absurd (never_missing c.args.self.now c.in-Planned.cost c.in-Planned.runs _ c.in-Planned.is c.in_err-board.ensures)
 
-pub returns : goal.returns
-returns c =
+pub returns-clause-kept : goal.returns-clause-kept
+returns-clause-kept c = kept_of c.args.self.now
+
+pub returns-clause-shown : goal.returns-clause-shown
+returns-clause-shown c =
     let j = c.args.self.now in
     let n = c.args.subtour in
     let board = c.in_ok-board.board in
@@ -34,19 +32,17 @@ returns c =
     let w = row_of (orders_of board) (nozzles_of board) j.flow (n - 1) in
     let r = length (book_of j).nozzles in
     let many : r ≡ length (nozzles_of board) = ap length made.1 in
-    let room : r ≤ length c.args.out.now = omega (arith, wide j) in
-    let long : length c.row.new.out ≡ length c.args.out.now = c.row.auto.out in
-    record {
-      shown = (
-        record {
-          allowed = fine _ c.in-Planned.cost c.in-Planned.runs c.in-Planned.is _ _ _ c.if-subtour-lt1.false c.if-subtour-cost.false room;
-          accepts = (
-            ap row (front c.args.out.now c.row.new.out w r long room (length-map-range_with_len _ 0 _ ∙ sym many) (λ k h. c.row.ensures.row k (omega arith) (omega arith))
-                ∙ row_is j c.in-Planned.cost c.in-Planned.runs n c.in-Planned.is c.if-subtour-lt1.false c.if-subtour-cost.false _ _ made.0 made.1),
-            refl,
-          );
-        },
-        back c.args.out.now c.row.new.out w r long room (λ k h. c.row.ensures.rest k (omega arith)),
-      );
-      kept = kept_of j;
-    }
+    let lo : 1 ≤ n = search rules in
+    let hi : n ≤ c.in-Planned.cost = search rules in
+    let room : r ≤ length c.args.out.now = omega arith in
+    let long : length c.row.new.out ≡ length c.args.out.now = c.row.auto.out in (
+      record {
+        allowed = fine _ c.in-Planned.cost c.in-Planned.runs c.in-Planned.is _ _ _ lo hi room;
+        accepts = (
+          ap row (front c.args.out.now c.row.new.out w r long room (length-map-range_with_len _ 0 _ ∙ sym many) (λ k h. c.row.ensures.row k (omega arith) (omega arith))
+              ∙ row_is j c.in-Planned.cost c.in-Planned.runs n c.in-Planned.is lo hi _ _ made.0 made.1),
+          refl,
+        );
+      },
+      back c.args.out.now c.row.new.out w r long room (λ k h. c.row.ensures.rest k (omega arith)),
+    )
