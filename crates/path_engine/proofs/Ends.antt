@@ -7,6 +7,8 @@ use Rattle.flows.specs.Flows.{IsFlow, inflow, outflow, size}
 use Rattle.flows.proofs.Sums.{sum_none}
 use Rattle.network.specs.declared.nets.Network.{Network}
 use Rattle.network.specs.Nets.{arcs_of}
+use Rattle.path_engine.specs.declared.search.Goal.{Goal}
+use Rattle.path_engine.specs.declared.search.Goal.TheVariants.{Sink}
 use Rattle.path_engine.specs.declared.search.Search.{Search}
 use Rattle.path_engine.specs.Residual.{Closed, Innermost}
 use Rattle.path_engine.specs.Searches.{has, depth_at, Searched, Carries}
@@ -32,9 +34,9 @@ pub is_flow : (net : Network) (L : ℕ) (x : List ℕ) → Carries L (arcs_of ne
 is_flow net L x f = record { fits = f.is_flow.fits; kept = λ v two v-in. f.is_flow.kept v two (omega (arith, net.counts.1)) }
 
 -- a search that did not stop has reached what can be reached
-pub innermost : (net : Network) (L : ℕ) (x : List ℕ) (arcs : List Arc) (stop : Bool) (s : Search) → arcs ≡ arcs_of net → Searched L arcs x stop s → (stop ≡ true → has s 1 ≡ false)
+pub innermost : (net : Network) (L : ℕ) (x : List ℕ) (arcs : List Arc) (aim : Goal) (s : Search) → arcs ≡ arcs_of net → Searched L arcs x aim s → (aim ≡ Sink → has s 1 ≡ false)
     → Innermost net.nodes L (arcs_of net) x (has s)
-innermost net L x arcs stop s same r on =
+innermost net L x arcs aim s same r on =
     let least : (q : ℕ → Bool) → q 0 ≡ true → Closed L arcs x q → (v : ℕ) → has s v ≡ true → q v ≡ true = λ q first closed v h. along L arcs x q first closed (depth_at s v) v (r.leads v h) in
     let below = least (λ v. ltb v net.nodes) (lt-ltb 0 net.nodes (omega (arith, net.counts.0))) (λ k u l _ _. lt-ltb _ net.nodes (end_in arcs (net, same) k l u)) in
     subst (λ (l : List Arc). Innermost net.nodes L l x (has s)) same record {

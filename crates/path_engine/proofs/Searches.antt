@@ -9,6 +9,8 @@ use Rattle.flows.specs.Flows.{arc_at}
 use Rattle.network.specs.declared.amounts.Amount.{Amount}
 use Rattle.line.specs.declared.node.Visit.{Visit}
 use Rattle.path_engine.specs.declared.steps.Step.{Step}
+use Rattle.path_engine.specs.declared.search.Goal.{Goal}
+use Rattle.path_engine.specs.declared.search.Goal.TheVariants.{Sink}
 use Rattle.path_engine.specs.declared.search.Search.{Search}
 use Rattle.path_engine.specs.Residual.{end_at, residual, Route}
 use Rattle.path_engine.specs.Searches.{OfNetwork, has, depth_at, room_at, TaskOf, outside, effort, LedTo, Tree, Beside, Waits, Rising, Met, Turn, Searched, begun, discovered, noted}
@@ -35,8 +37,8 @@ rising_push d (f ∷ w) e r le = (All-push (λ g. d f.node ≤ d g.node) w e r.0
 
 module _ (L : ℕ) (arcs : List Arc) (x : List ℕ) where
   -- node 0 waits
-  begins : (limit : Amount) (most : ℕ) (stop : Bool) → 0 < most → Met L arcs x stop (begun limit most) (record { node = 0; arc = 0 } ∷ [])
-  begins limit most stop some =
+  begins : (limit : Amount) (most : ℕ) (aim : Goal) → 0 < most → Met L arcs x aim (begun limit most) (record { node = 0; arc = 0 } ∷ [])
+  begins limit most aim some =
       let o = outside_alone 63 in
       record {
         tree = record {
@@ -59,9 +61,9 @@ module _ (L : ℕ) (arcs : List Arc) (x : List ℕ) where
       }
 
   -- the first visit leaves the line, and its arc is written down
-  module _ (stop : Bool) (s : Search) (line : List Visit) (e : Visit) (w : List Visit) (first : line ≡ e ∷ w) (before : Met L arcs x stop s line) where
-    m : Met L arcs x stop s (e ∷ w)
-    m = subst (Met L arcs x stop s) first before
+  module _ (aim : Goal) (s : Search) (line : List Visit) (e : Visit) (w : List Visit) (first : line ≡ e ∷ w) (before : Met L arcs x aim s line) where
+    m : Met L arcs x aim s (e ∷ w)
+    m = subst (Met L arcs x aim s) first before
 
     pub first_in : e.node < 64
     first_in = m.tree.below e.node m.waits.0.0
@@ -87,7 +89,7 @@ module _ (L : ℕ) (arcs : List Arc) (x : List ℕ) where
         }
 
     -- to be expanded
-    pub called : (stop ≡ true → has s 1 ≡ true → ⊥) → Turn L arcs x (noted s e) w e.node 0
+    pub called : (aim ≡ Sink → has s 1 ≡ true → ⊥) → Turn L arcs x (noted s e) w e.node 0
     called on =
         record {
           tree = tree_noted;
@@ -104,7 +106,7 @@ module _ (L : ℕ) (arcs : List Arc) (x : List ℕ) where
         }
 
     -- or not, since node 1 was reached
-    pub stopped : stop ≡ true → has s 1 ≡ true → Met L arcs x stop (noted s e) w
+    pub stopped : aim ≡ Sink → has s 1 ≡ true → Met L arcs x aim (noted s e) w
     stopped y z =
         record {
           tree = tree_noted;
@@ -139,8 +141,8 @@ module _ (L : ℕ) (arcs : List Arc) (x : List ℕ) where
       }
 
   -- every arc was followed
-  pub ended : (stop : Bool) (s : Search) (w : List Visit) (n : ℕ) → Turn L arcs x s w n (length arcs) → Met L arcs x stop s w
-  ended stop s w n t =
+  pub ended : (aim : Goal) (s : Search) (w : List Visit) (n : ℕ) → Turn L arcs x s w n (length arcs) → Met L arcs x aim s w
+  ended aim s w n t =
       record {
         tree = t.tree;
         waits = t.waits;
@@ -334,9 +336,9 @@ module _ (L : ℕ) (arcs : List Arc) (x : List ℕ) where
       (d.0, u, d.1.1.inside, omega (arith, d.1.1.narrow, t.some v h), d.1.1.back, leads s w t n u (omega (arith, d.1.1.deeper)) d.1.1.from)
 
   -- nothing waits any more: no way to node 1 is shorter
-  module _ (stop : Bool) (s : Search) (line : List Visit) (none : line ≡ []) (last : Met L arcs x stop s line) where
-    end : Met L arcs x stop s []
-    end = subst (Met L arcs x stop s) none last
+  module _ (aim : Goal) (s : Search) (line : List Visit) (none : line ≡ []) (last : Met L arcs x aim s line) where
+    end : Met L arcs x aim s []
+    end = subst (Met L arcs x aim s) none last
 
     nearer : (n v : ℕ) → n < depth_at s 1 → Route L arcs x n v → (has s v ≡ true) × (depth_at s v ≤ n)
     nearer zero v lt z = rw z (end.tree.source, omega (arith, end.tree.root))
@@ -348,7 +350,7 @@ module _ (L : ℕ) (arcs : List Arc) (x : List ℕ) where
     least : (n : ℕ) → Route L arcs x n 1 → depth_at s 1 ≤ n
     least n way = elim (cases_lt n (depth_at s 1)) [ inl lt ↦ absurd (omega (arith, (nearer n 1 lt way).1)) | inr le ↦ le ]
 
-    pub done : Searched L arcs x stop s
+    pub done : Searched L arcs x aim s
     done =
         let t = end.tree in
         record {
@@ -359,11 +361,11 @@ module _ (L : ℕ) (arcs : List Arc) (x : List ℕ) where
         }
 
 -- the same of what the code holds
-pub begins_as : (arcs : List Arc) (x : List ℕ) (limit : Amount) (most : ℕ) (stop : Bool) (s : Search) (w : List Visit) → 0 < most → s ≡ begun limit most → w ≡ record { node = 0; arc = 0 } ∷ []
-    → Met s.limit.value arcs x stop s w
-begins_as arcs x limit most stop s w some s-is w-is =
-    let P : Search → List Visit → Type 0 = λ a b. Met a.limit.value arcs x stop a b in
-    subst (λ (a : Search). P a w) (sym s-is) (subst (P (begun limit most)) (sym w-is) (begins limit.value arcs x limit most stop some))
+pub begins_as : (arcs : List Arc) (x : List ℕ) (limit : Amount) (most : ℕ) (aim : Goal) (s : Search) (w : List Visit) → 0 < most → s ≡ begun limit most → w ≡ record { node = 0; arc = 0 } ∷ []
+    → Met s.limit.value arcs x aim s w
+begins_as arcs x limit most aim s w some s-is w-is =
+    let P : Search → List Visit → Type 0 = λ a b. Met a.limit.value arcs x aim a b in
+    subst (λ (a : Search). P a w) (sym s-is) (subst (P (begun limit most)) (sym w-is) (begins limit.value arcs x limit most aim some))
 
 module _ (arcs : List Arc) (x : List ℕ) (s : Search) (w : List Visit) (n j : ℕ) where
   -- one arc later

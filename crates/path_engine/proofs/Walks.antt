@@ -134,7 +134,7 @@ module _ (L : ℕ) (arcs : List Arc) (x : List ℕ) (s : Search) where
           more = omega (arith, level 0, none x, none y);
         }
 
-    pub as_deep : {stop : _} → Searched L arcs x stop s → has s 1 ≡ true → Shortest L arcs x 1 (changed x y (length arcs))
+    pub as_deep : {aim : _} → Searched L arcs x aim s → has s 1 ≡ true → Shortest L arcs x 1 (changed x y (length arcs))
     as_deep r found =
         let deep : changed x y (length arcs) ≡ depth_at s 1 = omega (arith, i.spent, r.tree.root, ap (depth_at s) e) in
         rw deep (r.nearest found)

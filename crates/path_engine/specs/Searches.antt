@@ -10,6 +10,8 @@ use Rattle.network.specs.Nets.{arcs_of}
 use Rattle.network.specs.Runs.{ZeroAfter}
 use Rattle.line.specs.declared.node.Visit.{Visit}
 use Rattle.path_engine.specs.declared.steps.Step.{Step}
+use Rattle.path_engine.specs.declared.search.Goal.{Goal}
+use Rattle.path_engine.specs.declared.search.Goal.TheVariants.{Sink}
 use Rattle.path_engine.specs.declared.search.Search.{Search}
 use Rattle.path_engine.specs.Residual.{end_at, residual, Closed, Shortest, Route}
 
@@ -90,10 +92,10 @@ Near s u = (v : ℕ) → has s v ≡ true → depth_at s v ≤ depth_at s u + 1
 
 -- between two visits: each residual arc was followed of the nodes that do not wait, or if the search
 -- stops at node 1, of those among them that lie more than one arc before it
-pub record Met (L : ℕ) (arcs : List Arc) (x : List ℕ) (stop : Bool) (s : Search) (w : List Visit) : Type 0 where
+pub record Met (L : ℕ) (arcs : List Arc) (x : List ℕ) (aim : Goal) (s : Search) (w : List Visit) : Type 0 where
   pub tree : Tree L arcs x s w
   pub waits : AllByRecursion (Waits L arcs x s) w
-  pub followed : (k u : ℕ) → k < length arcs → has s u ≡ true → 0 < residual L arcs x k u → NoneTo u w → (stop ≡ true → has s 1 ≡ true → depth_at s u + 1 < depth_at s 1) → Beside s u (end_at arcs k u)
+  pub followed : (k u : ℕ) → k < length arcs → has s u ≡ true → 0 < residual L arcs x k u → NoneTo u w → (aim ≡ Sink → has s 1 ≡ true → depth_at s u + 1 < depth_at s 1) → Beside s u (end_at arcs k u)
   pub once : length w + outside (has s) 64 ≤ 64
   pub rising : Rising (depth_at s) w
   pub near : AllByRecursion (λ e. Near s e.node) w
@@ -111,11 +113,11 @@ pub record Turn (L : ℕ) (arcs : List Arc) (x : List ℕ) (s : Search) (w : Lis
 
 -- what a search found: so many residual arcs lead to a node as it is deep, to node 1 no fewer, and
 -- unless it stopped at node 1, no residual arc leads out of what was reached
-pub record Searched (L : ℕ) (arcs : List Arc) (x : List ℕ) (stop : Bool) (s : Search) : Type 0 where
+pub record Searched (L : ℕ) (arcs : List Arc) (x : List ℕ) (aim : Goal) (s : Search) : Type 0 where
   pub tree : Tree L arcs x s []
   pub leads : (v : ℕ) → has s v ≡ true → Route L arcs x (depth_at s v) v
   pub nearest : has s 1 ≡ true → Shortest L arcs x 1 (depth_at s 1)
-  pub closed : (stop ≡ true → has s 1 ≡ false) → Closed L arcs x (has s)
+  pub closed : (aim ≡ Sink → has s 1 ≡ false) → Closed L arcs x (has s)
 
 -- node 0 alone
 abbrev pub begun : Amount → ℕ → Search

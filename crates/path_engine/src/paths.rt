@@ -3,7 +3,7 @@ ghost use Rattle.std.specs.Prelude.{◌≡◌, ◌+◌, ◌^◌, ◌<◌, ◌≤
 ghost use Rattle.path_engine.specs.Residual.{far_end, Shortest, changed};
 ghost use Rattle.path_engine.specs.Searches.{OfNetwork, has, room_at, Searched, Carries, Grown, passed};
 
-use crate::search::Search;
+use crate::search::{Goal, Search};
 use flows::Arc;
 
 // Brings an amount to a node by an arc, and says from where.
@@ -29,7 +29,7 @@ impl Search {
     pub(crate) fn augment(&self, arcs: &[Arc], flow: &mut [u32; 256]) -> u32
         requires arcs { OfNetwork arcs.now }
         requires flow { Carries self.now.limit.value arcs.now flow.old }
-        requires searched { Searched self.now.limit.value arcs.now flow.old true self.now }
+        requires searched { Searched self.now.limit.value arcs.now flow.old Goal.Sink self.now }
         requires found { has self.now 1 ≡ true }
         ensures shortest { Shortest self.now.limit.value arcs.now flow.old 1 (changed flow.old flow.new (length arcs.now)) }
         ensures grown { Grown self.now.limit.value arcs.now flow.old flow.new result }

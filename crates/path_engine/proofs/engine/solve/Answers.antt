@@ -1,7 +1,8 @@
-use Rattle.std.proofs.Common.{true, List, sym, ap, subst, arith}
+use Rattle.std.proofs.Common.{List, sym, ap, subst, arith}
 use Rattle.flows.specs.declared.Arc.{Arc}
 use Rattle.flows.specs.Flows.{size}
 use Rattle.network.specs.declared.amounts.Amount.{Amount}
+use Rattle.path_engine.specs.declared.search.Goal.TheVariants.{Sink}
 use Rattle.path_engine.specs.Searches.{Carries, Searched}
 use Rattle.path_engine.proofs.Closed.{falls_short}
 use Rattle.path_engine.proofs.Ends.{idle, is_flow, innermost}
@@ -22,6 +23,6 @@ returns-then-not-found c =
 
 pub augment-missing-requires : goal.augment-missing-requires
 augment-missing-requires c =
-    let P : Amount → Type 0 = λ a. Carries a.value c.arcs-arcs.result.now c.loop-missing.flow × Searched a.value c.arcs-arcs.result.now c.loop-missing.flow true c.run-search.result in
+    let P : Amount → Type 0 = λ a. Carries a.value c.arcs-arcs.result.now c.loop-missing.flow × Searched a.value c.arcs-arcs.result.now c.loop-missing.flow Sink c.run-search.result in
     let at = subst P (sym c.run-search.ensures.task.0) (c.loop-missing.invariant.0, c.run-search.ensures.searched) in
     record { arcs = (c.args.net.now, c.arcs-arcs.ensures); flow = at.0; searched = at.1; found = sym c.if-not-found.ensures }
