@@ -1,11 +1,10 @@
 // The breadth-first search over the residual network.
 ghost use Rattle.std.specs.Prelude.{◌≡◌, ◌<◌, ◌≤◌, ◌↔◌, true, [], ◌∷◌, ◌++◌, length, IsTrue};
-ghost use Rattle.path_engine.specs.Searches.{OfNetwork, has, depth_at, room_at, TaskOf, effort, Turn, Searched, begun, discovered};
+ghost use Rattle.path_engine.specs.Searches.{arcs_in, has, depth_at, room_at, effort, Turn, Searched, begun, discovered};
 
-use crate::steps::{Step, step_from};
-use flows::Arc;
+use crate::steps::{LimitedNet, Step, step_from};
 use line::{NodeLine, Visit};
-use network::{Amount, Side};
+use network::Side;
 
 /// Where a search is to come: to node 1, or to every node that it can.
 #[derive(Clone, Copy, PartialEq, Eq)]
@@ -14,11 +13,10 @@ pub(crate) enum Goal {
     AllNodes,
 }
 
-/// What a search under a limit found: the nodes that it reached, and for each of them the arc that
-/// it came by, how many arcs lead there, and the bottleneck of these: how much more can go there.
+/// What a search found: the nodes that it reached, and for each of them the arc that it came by, how
+/// many arcs lead there, and the bottleneck of these: how much more can go there.
 #[derive(Drop)]
 pub(crate) struct Search {
-    limit: Amount,
     pub(crate) reached: Side,
     pub(crate) came: [u8; 64],
     depth: [u8; 64],
@@ -27,13 +25,12 @@ pub(crate) struct Search {
 
 impl Search {
     // Node 0 alone, where so much is to be sent.
-    fn begin(limit: Amount, most: u32) -> Search
-        ensures { result ≡ begun limit most }
+    fn begin(most: u32) -> Search
+        ensures { result ≡ begun most }
     {
         let mut room = [0; 64];
         room[0] = most;
         Search {
-            limit,
             reached: Side { bits: 1 },
             came: [0; 64],
             depth: [0; 64],
@@ -73,15 +70,21 @@ impl Search {
 
     // Follows each arc of a node: what it leads to joins the line, if it is new and more can go
     // there.
-    fn expand(&mut self, line: &mut NodeLine<'_, Visit>, arcs: &[Arc], flow: &[u32; 256], node: u8)
-        requires arcs { OfNetwork arcs.now }
-        requires turn { Turn self.old.limit.value arcs.now flow.now self.old line.old node 0 }
-        ensures turn { Turn self.new.limit.value arcs.now flow.now self.new line.new node (length arcs.now) }
-        ensures task { TaskOf self.new self.old.limit (room_at self.old 0) }
+    fn expand(
+        &mut self,
+        line: &mut NodeLine<'_, Visit>,
+        net: LimitedNet<'_>,
+        flow: &[u32; 256],
+        node: u8,
+    )
+        requires { Turn net flow.now self.old line.old node 0 }
+        ensures turn { Turn net.entry flow.now self.new line.new node (length (arcs_in net.entry)) }
+        ensures most { room_at self.new 0 ≡ room_at self.old 0 }
         ensures fewer { effort self.new line.new ≤ effort self.old line.old }
     {
-        for k in 0..arcs.len() {
-            let step = step_from(arcs[k], flow[k], self.limit, node);
+        let arcs = net.arcs();
+        for (k, arc) in arcs.iter().enumerate() {
+            let step = step_from(*arc, flow[k], net.limit, node);
             if step.residual > 0 && !self.reached.holds(step.to) {
                 self.discover(line, node, step, k as u8);
             }
@@ -91,27 +94,20 @@ impl Search {
     /// Searches from node 0, nearest nodes first, for where more can go, at most so much. A search
     /// that is only to node 1 expands no node any more once that is reached, but still takes each
     /// visit that waits, so that the arc to every node is known.
-    pub(crate) fn run(
-        limit: Amount,
-        arcs: &[Arc],
-        flow: &[u32; 256],
-        most: u32,
-        aim: Goal,
-    ) -> Search
-        requires arcs { OfNetwork arcs.now }
-        requires some { 0 < most }
-        ensures searched { Searched limit.value arcs.now flow.now aim result }
-        ensures task { TaskOf result limit most }
+    pub(crate) fn run(net: LimitedNet<'_>, flow: &[u32; 256], most: u32, aim: Goal) -> Search
+        requires { 0 < most }
+        ensures searched { Searched net.entry flow.now aim result }
+        ensures most { room_at result 0 ≡ most }
     {
         let start = Visit { node: 0, arc: 0 };
         let mut places = [start; 64];
         let mut line = NodeLine::new(&mut places);
         line.push(start);
-        let mut search = Search::begin(limit, most);
+        let mut search = Search::begin(most);
         while let Some(visit) = line.pop() {
             search.came[visit.node as usize] = visit.arc;
             if !search.stops(aim) {
-                search.expand(&mut line, arcs, flow, visit.node);
+                search.expand(&mut line, net, flow, visit.node);
             }
         }
         search
