@@ -1,5 +1,5 @@
 -- What each step of a search leaves.
-use Rattle.std.proofs.Common.{◌≡◌, ℕ, zero, suc, ◌+◌, ◌<◌, ◌≤◌, min, true, false, ◌≢◌, ◌⊎◌, List, [], ◌∷◌, ◌++◌, length, get_or, sym, refl, ap, ◌∙◌, subst, inl, inr, arith, length-set, get_or-set_other, get_or-set_same}
+use Rattle.std.proofs.Common.{◌≡◌, ℕ, zero, suc, ◌+◌, ◌<◌, ◌≤◌, min, true, false, ◌≢◌, ◌⊎◌, List, [], ◌∷◌, ◌++◌, length, get_or, slice_index_or, replicate, sym, refl, ap, ◌∙◌, subst, inl, inr, arith, length-set, get_or-set_other, get_or-set_same}
 use Rattle.std.specs.List.{AllByRecursion}
 use Rattle.std.proofs.lemmas.List.{length_push}
 use Rattle.std.proofs.ByRecursion.{All-push, All-weaker}
@@ -11,11 +11,11 @@ use Rattle.path_engine.specs.declared.steps.LimitedNet.{LimitedNet}
 use Rattle.path_engine.specs.declared.steps.Step.{Step}
 use Rattle.path_engine.specs.declared.search.Goal.{Goal}
 use Rattle.path_engine.specs.declared.search.Goal.TheVariants.{Sink}
+use Rattle.path_engine.specs.declared.search.Label.{Label}
 use Rattle.path_engine.specs.declared.search.Search.{Search}
 use Rattle.path_engine.specs.Residual.{end_at, Route}
-use Rattle.path_engine.specs.Searches.{arcs_in, residual_in, has, depth_at, room_at, outside, effort, LedTo, Tree, Beside, Waits, Rising, Met, Turn, Searched, begun, discovered, noted}
+use Rattle.path_engine.specs.Searches.{arcs_in, residual_in, no_label, has, label_at, depth_at, room_at, outside, effort, LedTo, Tree, Beside, Waits, Rising, Met, Turn, Searched, begun, discovered, noted}
 use Rattle.path_engine.proofs.Sides.{alone, outside_alone, inserted_cases, inserted_new, inserted_kept, outside_less}
-use Rattle.flows.proofs.Places.{zeros}
 use Rattle.path_engine.proofs.Arcs.{end_few, back_again}
 
 -- lists of visits
@@ -35,6 +35,16 @@ rising_push : (d : ℕ → ℕ) (w : List Visit) (e : Visit) → Rising d w → 
 rising_push d [] e r le = (tt, tt)
 rising_push d (f ∷ w) e r le = (All-push (λ g. d f.node ≤ d g.node) w e r.0 le.0, rising_push d w e r.1 le.1)
 
+-- at first every depth is 0
+unlabeled : (n v : ℕ) → slice_index_or (replicate n no_label) v no_label ≡ no_label
+unlabeled zero v = refl
+unlabeled (suc n) zero = refl
+unlabeled (suc n) (suc v) = unlabeled n v
+
+flat : (most v : ℕ) → depth_at (begun most) v ≡ 0
+flat most zero = refl
+flat most (suc v) = ap (λ (l : Label). l.depth) (unlabeled 63 v)
+
 module _ (N : LimitedNet) (x : List ℕ) where
   abbrev arcs : List Arc
   arcs = arcs_in N
@@ -46,21 +56,20 @@ module _ (N : LimitedNet) (x : List ℕ) where
       record {
         tree = record {
           came_long = refl;
-          depth_long = refl;
-          room_long = refl;
+          labels_long = refl;
           below = λ v h. omega (arith, alone v h);
           source = refl;
           root = refl;
           some = λ v h. let e = alone v h in rw e some;
           most = λ v h. let e = alone v h in rw e (omega arith);
-          low = λ v h. omega (arith, zeros 64 v, o);
+          low = λ v h. omega (arith, flat most v, o);
           led = λ v h nz. absurd (nz (alone v h));
         };
         waits = ((refl, λ nz. absurd (nz refl)), tt);
         followed = λ k u l h sp none far. absurd (none.0 (sym (alone u h)));
         once = omega (arith, o);
         rising = (tt, tt);
-        near = (λ v h. omega (arith, zeros 64 v), tt);
+        near = (λ v h. omega (arith, flat most v), tt);
       }
 
   -- the first visit leaves the line, and its arc is written down
@@ -77,8 +86,7 @@ module _ (N : LimitedNet) (x : List ℕ) where
         let there : e.node < length s.came = omega (arith, first_in, t.came_long) in
         record {
           came_long = length-set s.came e.node e.arc ∙ t.came_long;
-          depth_long = t.depth_long;
-          room_long = t.room_long;
+          labels_long = t.labels_long;
           below = t.below;
           source = t.source;
           root = t.root;
@@ -175,21 +183,25 @@ module _ (N : LimitedNet) (x : List ℕ) where
     unfolding h
     old v r e = both_ways _ out (subst (λ (u : ℕ). has s u ≡ true) e r)
 
-    same_depth : (v : ℕ) → v ≢ h → depth_at after v ≡ depth_at s v
+    same_label : (v : ℕ) → v ≢ h → label_at after v ≡ label_at s v
     unfolding h after
-    same_depth v ne = rw get_or-set_other
+    same_label v ne = get_or-set_other s.labels (end_at arcs j n) v _ _ ne
+
+    same_depth : (v : ℕ) → v ≢ h → depth_at after v ≡ depth_at s v
+    same_depth v ne = ap (λ (l : Label). l.depth) (same_label v ne)
 
     same_room : (v : ℕ) → v ≢ h → room_at after v ≡ room_at s v
+    same_room v ne = ap (λ (l : Label). l.room) (same_label v ne)
+
+    new_label : label_at after h ≡ record { depth = depth_at s n + 1; room = min (residual_in N x j n) (room_at s n) }
     unfolding h after
-    same_room v ne = rw get_or-set_other
+    new_label = let lt : end_at arcs j n < length s.labels = omega (arith, h_in, t.tree.labels_long) in rw get_or-set_same
 
     new_depth : depth_at after h ≡ depth_at s n + 1
-    unfolding h after
-    new_depth = let lt : end_at arcs j n < length s.depth = omega (arith, h_in, t.tree.depth_long) in rw get_or-set_same
+    new_depth = ap (λ (l : Label). l.depth) new_label
 
     new_room : room_at after h ≡ min (residual_in N x j n) (room_at s n)
-    unfolding h after
-    new_room = let lt : end_at arcs j n < length s.room = omega (arith, h_in, t.tree.room_long) in rw get_or-set_same
+    new_room = ap (λ (l : Label). l.room) new_label
 
     kept : (v : ℕ) → has s v ≡ true → has after v ≡ true
     unfolding after
@@ -242,13 +254,9 @@ module _ (N : LimitedNet) (x : List ℕ) where
     unfolding after
     came_kept = refl
 
-    depth_kept : length after.depth ≡ length s.depth
+    labels_kept : length after.labels ≡ length s.labels
     unfolding after
-    depth_kept = length-set s.depth (end_at arcs j n) _
-
-    room_kept : length after.room ≡ length s.room
-    unfolding after
-    room_kept = length-set s.room (end_at arcs j n) _
+    labels_kept = length-set s.labels (end_at arcs j n) _
 
     visit_node : visit.node ≡ h
     unfolding h visit
@@ -275,8 +283,7 @@ module _ (N : LimitedNet) (x : List ℕ) where
         let ne0 = old 0 o.source in
         record {
           came_long = ap length came_kept ∙ o.came_long;
-          depth_long = depth_kept ∙ o.depth_long;
-          room_long = room_kept ∙ o.room_long;
+          labels_long = labels_kept ∙ o.labels_long;
           below = λ v r. elim (which v r) [ inl e ↦ omega (arith, h_in) | inr (ne, q) ↦ o.below v q ];
           source = kept 0 o.source;
           root = same_depth 0 ne0 ∙ o.root;

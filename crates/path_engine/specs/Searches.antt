@@ -1,6 +1,6 @@
 -- What holds while a search runs and while more is sent: N is a network under a limit, x what each of
 -- its arcs carries, and w the visits that wait in line.
-use Rattle.std.specs.Prelude.{◌≡◌, ℕ, zero, suc, ◌+◌, ◌-◌, ◌^◌, ◌<◌, ◌≤◌, min, Bool, true, false, cond, ◌≢◌, List, [], ◌∷◌, length, replicate, ◌==◌, bit_or, slice_index, slice_set}
+use Rattle.std.specs.Prelude.{◌≡◌, ℕ, zero, suc, ◌+◌, ◌-◌, ◌^◌, ◌<◌, ◌≤◌, min, Bool, true, false, cond, ◌≢◌, List, [], ◌∷◌, length, replicate, ◌==◌, bit_or, slice_index, slice_index_or, slice_set}
 use Rattle.std.specs.List.{AllByRecursion}
 use Rattle.flows.specs.declared.Arc.{Arc}
 use Rattle.flows.specs.Flows.{IsFlow, inside, size}
@@ -11,6 +11,7 @@ use Rattle.path_engine.specs.declared.steps.LimitedNet.{LimitedNet}
 use Rattle.path_engine.specs.declared.steps.Step.{Step}
 use Rattle.path_engine.specs.declared.search.Goal.{Goal}
 use Rattle.path_engine.specs.declared.search.Goal.TheVariants.{Sink}
+use Rattle.path_engine.specs.declared.search.Label.{Label}
 use Rattle.path_engine.specs.declared.search.Search.{Search}
 use Rattle.path_engine.specs.Residual.{end_at, residual, Closed, Shortest, Route}
 
@@ -22,15 +23,22 @@ arcs_in N = arcs_of N.net.now
 abbrev pub residual_in : LimitedNet → List ℕ → ℕ → ℕ → ℕ
 residual_in N x k u = residual N.limit.value (arcs_in N) x k u
 
--- whether a node was reached, how many arcs lead there, and how much more can go there
+-- what stands where no node is
+abbrev pub no_label : Label
+no_label = record { depth = 0; room = 0 }
+
+-- whether a node was reached, what is known of it, how many arcs lead there, and how much more can go there
 abbrev pub has : Search → ℕ → Bool
 has s = inside s.reached.bits
 
+abbrev pub label_at : Search → ℕ → Label
+label_at s v = slice_index_or s.labels v no_label
+
 abbrev pub depth_at : Search → ℕ → ℕ
-depth_at s v = slice_index s.depth v
+depth_at s v = (label_at s v).depth
 
 abbrev pub room_at : Search → ℕ → ℕ
-room_at s v = slice_index s.room v
+room_at s v = (label_at s v).room
 
 -- how many of the first n nodes are not in a set
 unfoldable pub outside : (ℕ → Bool) → ℕ → ℕ
@@ -62,8 +70,7 @@ NoneTo v w = AllByRecursion (λ e. e.node ≢ v) w
 -- arc is written down
 pub record Tree (N : LimitedNet) (x : List ℕ) (s : Search) (w : List Visit) : Type 0 where
   pub came_long : length s.came ≡ 64
-  pub depth_long : length s.depth ≡ 64
-  pub room_long : length s.room ≡ 64
+  pub labels_long : length s.labels ≡ 64
   pub below : (v : ℕ) → has s v ≡ true → v < 64
   pub source : has s 0 ≡ true
   pub root : depth_at s 0 ≡ 0
@@ -120,20 +127,19 @@ pub record Searched (N : LimitedNet) (x : List ℕ) (aim : Goal) (s : Search) : 
 
 -- node 0 alone
 abbrev pub begun : ℕ → Search
-begun most = record { reached = record { bits = 1 }; came = replicate 64 0; depth = replicate 64 0; room = slice_set (replicate 64 0) 0 most }
+begun most = record { reached = record { bits = 1 }; came = replicate 64 0; labels = slice_set (replicate 64 no_label) 0 record { depth = 0; room = most } }
 
 -- one node more, by a step from u
 abbrev pub discovered : Search → ℕ → Step → Search
 discovered s u t = record {
   reached = record { bits = bit_or s.reached.bits (2 ^ t.to) };
   came = s.came;
-  depth = slice_set s.depth t.to (depth_at s u + 1);
-  room = slice_set s.room t.to (min t.residual (room_at s u));
+  labels = slice_set s.labels t.to record { depth = depth_at s u + 1; room = min t.residual (room_at s u) };
 }
 
 -- a visit's arc is written down
 abbrev pub noted : Search → Visit → Search
-noted s e = record { reached = s.reached; came = slice_set s.came e.node e.arc; depth = s.depth; room = s.room }
+noted s e = record { reached = s.reached; came = slice_set s.came e.node e.arc; labels = s.labels }
 
 -- the list holds a flow, at every node number below 64
 pub record Carries (N : LimitedNet) (x : List ℕ) : Type 0 where

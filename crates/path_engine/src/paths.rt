@@ -37,7 +37,7 @@ impl Search {
         ensures some { (0 < result) × (result ≤ room_at self.now 0) }
     {
         let arcs = net.arcs();
-        let amount = self.room[1];
+        let amount = self.labels[1].room;
         let mut node = 1;
         while node != 0 {
             let k = self.came[node as usize] as usize;

@@ -13,14 +13,21 @@ pub(crate) enum Goal {
     AllNodes,
 }
 
-/// What a search found: the nodes that it reached, and for each of them the arc that it came by, how
-/// many arcs lead there, and the bottleneck of these: how much more can go there.
+/// What is known of a node that was reached: how many arcs lead there, and the bottleneck of these,
+/// how much more can go there.
+#[derive(Clone, Copy)]
+pub(crate) struct Label {
+    depth: u8,
+    pub(crate) room: u32,
+}
+
+/// What a search found: the nodes that it reached, the arc that each of them came by, once its visit
+/// has left the line, and what else is known of each.
 #[derive(Drop)]
 pub(crate) struct Search {
     pub(crate) reached: Side,
     pub(crate) came: [u8; 64],
-    depth: [u8; 64],
-    pub(crate) room: [u32; 64],
+    pub(crate) labels: [Label; 64],
 }
 
 impl Search {
@@ -28,13 +35,12 @@ impl Search {
     fn begin(most: u32) -> Search
         ensures { result ≡ begun most }
     {
-        let mut room = [0; 64];
-        room[0] = most;
+        let mut labels = [Label { depth: 0, room: 0 }; 64];
+        labels[0].room = most;
         Search {
             reached: Side { bits: 1 },
             came: [0; 64],
-            depth: [0; 64],
-            room,
+            labels,
         }
     }
 
@@ -60,11 +66,13 @@ impl Search {
         ensures search { self.new ≡ discovered self.old from step }
         ensures line { line.new ≡ line.old ++ record { node = step.to; arc = arc } ∷ [] }
     {
-        let to = step.to as usize;
         let bits = self.reached.bits | 1 << step.to;
         self.reached = Side { bits };
-        self.depth[to] = self.depth[from as usize] + 1;
-        self.room[to] = step.residual.min(self.room[from as usize]);
+        let near = self.labels[from as usize];
+        self.labels[step.to as usize] = Label {
+            depth: near.depth + 1,
+            room: step.residual.min(near.room),
+        };
         line.push(Visit { node: step.to, arc });
     }
 
