@@ -1,7 +1,7 @@
 -- What the fields of a line say of the elements that wait in it.
-use Rattle.std.proofs.Common.{◌≡◌, ℕ, suc, ◌+◌, ◌-◌, ◌<◌, ◌≤◌, Bool, ◌||◌, eqb, List, [], ◌∷◌, ◌++◌, length, get_or, take, drop, set, MatchBool, refl, arith, rules}
+use Rattle.std.proofs.Common.{◌≡◌, ℕ, suc, ◌+◌, ◌-◌, ◌<◌, Bool, eqb, List, [], ◌∷◌, ◌++◌, length, get_or, take, set, MatchBool, refl, arith, rules}
 use lib.Seq.{take-set-lt}
-use Rattle.std.proofs.lemmas.List.{append_assoc, append-nil, at_drop_more, drop_all, drop_more, drop-set-add, drop-set-lt, length-drop, places, set-append_left, set-append_right, take_all, take-append-le, take_more, take_more_set, take-set-le}
+use Rattle.std.proofs.lemmas.List.{append_assoc, append-nil, drop_all, drop_more, drop-set-add, drop-set-lt, length-drop, places, set-append_left, set-append_right, take_all, take-append-le, take_more, take_more_set, take-set-le}
 use Rattle.std.proofs.lemmas.Bool.Decides.{Decides-by_or, Decides-eqb, nat_tests}
 use Rattle.line.specs.declared.line.Line.{Line}
 use Rattle.line.specs.Waiting.{turned, waiting, capacity, place, is_named, SomeNames}
@@ -18,10 +18,6 @@ module _ {X : Type 0} (l : Line X) where
   -- as many wait as the line counts
   pub waiting_count : length (waiting l) ≡ l.count
   waiting_count = let held = l.held in search (rules, places)
-
-  -- a line holds at most as many as it has places
-  pub waiting_fits : length (waiting l) ≤ capacity l
-  waiting_fits = rw waiting_count l.held
 
   -- a write k steps on from the head
   ring_set : (k i : ℕ) (x : X) → k < capacity l → i ≡ place l.head (capacity l) k → turned l.head (set row i x) ≡ set ring k x
@@ -43,17 +39,6 @@ module _ {X : Type 0} (l : Line X) where
       let less : l.count ≡ suc (l.count - 1) = omega arith in
       let next = ring_next i d (omega arith) is in
       search (rules, places, take-append-le)
-
-  -- the element that stands k steps on from the head has k others before it
-  waiting_at : (k i : ℕ) (x : X) → k < length (waiting l) → i ≡ place l.head (capacity l) k → x ≡ get_or row i x → get_or (waiting l) k x ≡ x
-  waiting_at k i x lt is read = let count = waiting_count in grind (arith, places, nat_tests)
-
-  -- whether a node is named from the k-th element on, by that element
-  pub named_more : (f : X → ℕ) (n k i : ℕ) (x : X) → k < length (waiting l) → i ≡ place l.head (capacity l) k → x ≡ get_or row i x → is_named f n (drop k (waiting l)) ≡ (eqb (f x) n || is_named f n (drop (k + 1) (waiting l)))
-  named_more f n k i x lt is read =
-      let more = at_drop_more (is_named f n) (waiting l) k x lt in
-      let read = waiting_at k i x lt is read in
-      cc
 
 -- the test holds exactly where an element names the node
 pub named_means : {X : Type 0} (f : X → ℕ) (n : ℕ) (xs : List X) (r : Bool) → r ≡ is_named f n xs → MatchBool r (SomeNames f n xs) (SomeNames f n xs → ⊥)

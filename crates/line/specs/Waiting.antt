@@ -1,6 +1,6 @@
 -- What waits in a line, as a list.
-use Rattle.std.specs.Prelude.{◌≡◌, ℕ, ◌+◌, ◌-◌, ◌<◌, Bool, false, cond, ◌||◌, List, [], ◌∷◌, ◌++◌, length, take, drop, ◌==◌, nat_lt}
-use Rattle.std.specs.List.{HoldsAt}
+use Rattle.std.specs.Prelude.{◌≡◌, ℕ, ◌+◌, ◌-◌, ◌<◌, Bool, cond, List, ◌++◌, length, take, drop, ◌==◌, nat_lt}
+use Rattle.std.specs.List.{HoldsAt, list_any}
 use Rattle.line.specs.declared.line.Line.{Line}
 
 -- the list from index h on, and then what stands before h
@@ -21,8 +21,7 @@ place h n k = cond (nat_lt k (n - h)) (h + k) (k - (n - h))
 
 -- whether an element of the list names node n, where f is the node that an element names
 abbrev pub is_named : {X : Type 0} → (X → ℕ) → ℕ → List X → Bool
-is_named f n [] = false
-is_named f n (x ∷ xs) = f x == n || is_named f n xs
+is_named f n xs = list_any (λ x. f x == n) xs
 
 -- an element of the list, the one at index k, names node n
 abbrev pub SomeNames : {X : Type 0} → (X → ℕ) → ℕ → List X → Type 0

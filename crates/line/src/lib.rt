@@ -3,6 +3,8 @@
 
 mod line;
 mod node;
+mod nodes;
 
 pub use line::{Full, Line};
 pub use node::{NamesNode, Visit};
+pub use nodes::NodeLine;

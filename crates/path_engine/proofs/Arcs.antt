@@ -1,14 +1,15 @@
 -- What the rules of a network say of its residual arcs.
-use Rattle.std.proofs.Common.{◌≡◌, ℕ, ◌-◌, ◌<◌, ◌≤◌, true, ◌≢◌, ◌⊎◌, List, length, ap, inl, inr, arith}
+use Rattle.std.proofs.Common.{◌≡◌, ℕ, ◌-◌, ◌<◌, ◌≤◌, true, ◌≢◌, ◌⊎◌, length, refl, inl, inr, arith}
 use Rattle.std.proofs.lemmas.List.{get_or-take, length-take}
 use Rattle.std.proofs.lemmas.Bool.{cases_eq}
 use Rattle.std.proofs.lemmas.Bool.Decides.{nat_tests}
 use Rattle.flows.specs.declared.Arc.{Arc}
 use Rattle.flows.specs.Flows.{no_arc, arc_at, fixed_of, capacity_under}
+use Rattle.network.specs.declared.nets.Network.{Network}
+use Rattle.network.specs.Nets.{arcs_of}
 use Rattle.network.specs.Rules.{arc_ok}
 use Rattle.network.proofs.Facts.{sound_at}
 use Rattle.path_engine.specs.Residual.{far_end, residual_of, end_at}
-use Rattle.path_engine.specs.Searches.{OfNetwork}
 
 far_in : (nodes : ℕ) (a : Arc) (u : ℕ) → arc_ok nodes a ≡ true → far_end a u < nodes
 far_in nodes a u h = grind (arith, nat_tests)
@@ -16,19 +17,17 @@ far_in nodes a u h = grind (arith, nat_tests)
 small_under : (L : ℕ) (a : Arc) → fixed_of a.capacity ≤ 2000000 → L ≤ 2000000 → capacity_under L a ≤ 2000000
 small_under L a h l = grind arith
 
-module _ (arcs : List Arc) (of : OfNetwork arcs) (k : ℕ) (h : k < length arcs) where
-  pub end_in : (u : ℕ) → end_at arcs k u < of.0.nodes
+module _ (net : Network) (k : ℕ) (h : k < length (arcs_of net)) where
+  pub end_in : (u : ℕ) → end_at (arcs_of net) k u < net.nodes
   end_in u =
-      let net = of.0 in
-      let same = of.1 in
-      let m : k < net.count = omega (arith, ap length same, length-take net.count net.table) in
-      rw (same, get_or-take net.count net.table k no_arc m) (far_in net.nodes (arc_at net.table k) u (net.rules k m))
+      let m : k < net.count = omega (arith, length-take net.count net.table) in
+      rw (get_or-take net.count net.table k no_arc m) (far_in net.nodes (arc_at net.table k) u (net.rules k m))
 
-  pub end_few : (u : ℕ) → end_at arcs k u < 64
-  end_few u = omega (arith, end_in u, of.0.counts.1)
+  pub end_few : (u : ℕ) → end_at (arcs_of net) k u < 64
+  end_few u = omega (arith, end_in u, net.counts.1)
 
-  pub small_at : (L : ℕ) → L ≤ 2000000 → capacity_under L (arc_at arcs k) ≤ 2000000
-  small_at L = small_under L (arc_at arcs k) (sound_at of.0 arcs of.1 k h).small
+  pub small_at : (L : ℕ) → L ≤ 2000000 → capacity_under L (arc_at (arcs_of net) k) ≤ 2000000
+  small_at L = small_under L (arc_at (arcs_of net) k) (sound_at net (arcs_of net) refl k h).small
 
 -- from the far end back
 pub back_again : (L : ℕ) (a : Arc) (f u : ℕ) → 0 < residual_of L a f u → far_end a (far_end a u) ≡ u

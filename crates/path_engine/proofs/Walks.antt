@@ -4,21 +4,28 @@ use Rattle.std.proofs.lemmas.Bool.{cases_eq}
 use Rattle.std.proofs.lemmas.Bool.Decides.{nat_tests}
 use Rattle.flows.specs.declared.Arc.{Arc}
 use Rattle.flows.specs.Sums.{only}
-use Rattle.flows.specs.Flows.{arc_at, EachArc, capacity_under, inflow, outflow, FromSource}
+use Rattle.flows.specs.Flows.{arc_at, EachArc, capacity_under, inflow, outflow}
 use Rattle.flows.proofs.Sums.{sum_none}
 use Rattle.network.specs.Runs.{ZeroAfter}
-use Rattle.network.proofs.Facts.{at_most}
+use Rattle.network.proofs.Facts.{at_most, from_source}
+use Rattle.path_engine.specs.declared.steps.LimitedNet.{LimitedNet}
 use Rattle.path_engine.specs.declared.search.Search.{Search}
-use Rattle.path_engine.specs.Residual.{end_at, residual, Shortest, changed}
-use Rattle.path_engine.specs.Searches.{OfNetwork, has, depth_at, room_at, Led, Tree, Searched, Carries, Grown, passed}
+use Rattle.path_engine.specs.Residual.{end_at, Shortest, changed}
+use Rattle.path_engine.specs.Searches.{arcs_in, residual_in, has, depth_at, room_at, Led, Tree, Searched, Carries, Grown, passed}
 use Rattle.path_engine.proofs.Arcs.{small_at, other, ways}
 use Rattle.flows.proofs.Places.{sum_more, sum_less, each_set}
 use Rattle.path_engine.proofs.Places.{unchanged, changed_set}
 
-module _ (L : ℕ) (arcs : List Arc) (x : List ℕ) (s : Search) where
+module _ (N : LimitedNet) (x : List ℕ) (s : Search) where
+  abbrev L : ℕ
+  L = N.limit.value
+
+  abbrev arcs : List Arc
+  arcs = arcs_in N
+
   -- the arc k led the search from u to v
   abbrev pub Came : ℕ → ℕ → ℕ → Type 0
-  Came v k u = Led L arcs x (has s) (depth_at s) (room_at s) v k u
+  Came v k u = Led N x (has s) (depth_at s) (room_at s) v k u
 
   -- arcs that lead to nodes of other depths are other arcs
   others : (v w k j u t : ℕ) → Came v k u → Came w j t → depth_at s w ≤ depth_at s u → j ≢ k
@@ -31,7 +38,7 @@ module _ (L : ℕ) (arcs : List Arc) (x : List ℕ) (s : Search) where
       ]
 
   -- the arc that a node was reached by, as the code reads it
-  pub led_as : (v : ℕ) → Tree L arcs x s [] → has s v ≡ true → v ≢ 0 → Came v (get_or s.came v 0) (end_at arcs (get_or s.came v 0) v)
+  pub led_as : (v : ℕ) → Tree N x s [] → has s v ≡ true → v ≢ 0 → Came v (get_or s.came v 0) (end_at arcs (get_or s.came v 0) v)
   led_as v t h nz =
       let d = t.led v h nz in
       let e = subst (λ (k : ℕ). Came v k d.1.0) (sym (d.2 tt)) d.1.1 in
@@ -49,7 +56,7 @@ module _ (L : ℕ) (arcs : List Arc) (x : List ℕ) (s : Search) where
     pub spent : changed x y (length arcs) + depth_at s v ≡ depth_at s 1
     pub fresh : (w k u : ℕ) → Came w k u → depth_at s w ≤ depth_at s v → get_or y k 0 ≡ get_or x k 0
 
-  pub starts : Carries L arcs x → Tree L arcs x s [] → has s 1 ≡ true → Walk (room_at s 1) x 1
+  pub starts : Carries N x → Tree N x s [] → has s 1 ≡ true → Walk (room_at s 1) x 1
   starts f t h =
       record {
         long = f.long;
@@ -64,14 +71,14 @@ module _ (L : ℕ) (arcs : List Arc) (x : List ℕ) (s : Search) where
       }
 
   -- one arc back: what is passed along k to v comes from u
-  module _ (m : ℕ) (y : List ℕ) (v k u : ℕ) (of : OfNetwork arcs) (d : Came v k u) (i : Walk m y v) where
+  module _ (m : ℕ) (y : List ℕ) (v k u : ℕ) (d : Came v k u) (i : Walk m y v) where
     same_there : get_or y k 0 ≡ get_or x k 0
     same_there = i.fresh v k u d (omega arith)
 
     in_list : k < length y
-    in_list = omega (arith, i.long, at_most of.0 arcs of.1, d.inside)
+    in_list = omega (arith, i.long, at_most N.net.now arcs refl, d.inside)
 
-    way : (((arc_at arcs k).tail ≡ v) × ((arc_at arcs k).head ≡ u) × (residual L arcs x k u ≡ get_or x k 0)) ⊎ (((arc_at arcs k).tail ≢ v) × ((arc_at arcs k).tail ≡ u) × ((arc_at arcs k).head ≡ v) × (residual L arcs x k u ≡ capacity_under L (arc_at arcs k) - get_or x k 0))
+    way : (((arc_at arcs k).tail ≡ v) × ((arc_at arcs k).head ≡ u) × (residual_in N x k u ≡ get_or x k 0)) ⊎ (((arc_at arcs k).tail ≢ v) × ((arc_at arcs k).tail ≡ u) × ((arc_at arcs k).head ≡ v) × (residual_in N x k u ≡ capacity_under L (arc_at arcs k) - get_or x k 0))
     way = ways L (arc_at arcs k) (get_or x k 0) u v (λ e. absurd (omega (arith, d.deeper, ap (depth_at s) e))) d.there d.back
 
     pub can_take : (arc_at arcs k).tail ≡ v → m ≤ get_or y k 0
@@ -80,8 +87,8 @@ module _ (L : ℕ) (arcs : List Arc) (x : List ℕ) (s : Search) where
     fits_up : (arc_at arcs k).tail ≢ v → get_or y k 0 + m ≤ capacity_under L (arc_at arcs k)
     fits_up ne = elim way [ inl w ↦ absurd (ne w.0) | inr w ↦ omega (arith, same_there, w.3, i.room, d.narrow, i.fits k d.inside) ]
 
-    pub can_send : L ≤ 2000000 → (arc_at arcs k).tail ≢ v → get_or y k 0 + m < 2 ^ 32
-    can_send small ne = omega (arith, fits_up ne, small_at arcs of k d.inside L small)
+    pub can_send : (arc_at arcs k).tail ≢ v → get_or y k 0 + m < 2 ^ 32
+    can_send ne = omega (arith, fits_up ne, small_at N.net.now k d.inside L N.limit.small)
 
     -- a new number at k
     walk_set : (b : ℕ) → b ≤ capacity_under L (arc_at arcs k) → b ≢ get_or x k 0
@@ -120,9 +127,9 @@ module _ (L : ℕ) (arcs : List Arc) (x : List ℕ) (s : Search) where
 
   -- node 0 is reached
   module _ (m : ℕ) (y : List ℕ) (v : ℕ) (e : v ≡ 0) (i : Walk m y v) where
-    pub arrived : FromSource arcs → Carries L arcs x → Grown L arcs x y m
-    arrived from f =
-        let none : (z : List ℕ) → inflow 0 arcs z ≡ 0 = λ z. sum_none _ (length arcs) (λ k h. let p = from k h in grind (arith, nat_tests)) in
+    pub arrived : Carries N x → Grown N x y m
+    arrived f =
+        let none : (z : List ℕ) → inflow 0 arcs z ≡ 0 = λ z. sum_none _ (length arcs) (λ k h. let p = from_source N.net.now k h in grind (arith, nat_tests)) in
         let level : (n : ℕ) → inflow n arcs y + outflow n arcs x + only (eqb 0 n) m ≡ inflow n arcs x + outflow n arcs y + only (eqb 1 n) m = rw e at i.level in
         let apart : (n : ℕ) → 1 < n → (only (eqb 0 n) m ≡ 0) × (only (eqb 1 n) m ≡ 0) = λ n h. (grind (arith, nat_tests), grind (arith, nat_tests)) in
         record {
@@ -134,7 +141,7 @@ module _ (L : ℕ) (arcs : List Arc) (x : List ℕ) (s : Search) where
           more = omega (arith, level 0, none x, none y);
         }
 
-    pub as_deep : {stop : _} → Searched L arcs x stop s → has s 1 ≡ true → Shortest L arcs x 1 (changed x y (length arcs))
+    pub as_deep : {aim : _} → Searched N x aim s → has s 1 ≡ true → Shortest L arcs x 1 (changed x y (length arcs))
     as_deep r found =
         let deep : changed x y (length arcs) ≡ depth_at s 1 = omega (arith, i.spent, r.tree.root, ap (depth_at s) e) in
         rw deep (r.nearest found)

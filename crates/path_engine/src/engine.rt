@@ -6,7 +6,8 @@ ghost use Rattle.network.specs.Runs.{Shown, ZeroAfter};
 ghost use Rattle.network.specs.declared.engines.Answer.TheVariants.{Reached, Short};
 ghost use Rattle.path_engine.specs.Residual.{Innermost};
 
-use crate::search::Search;
+use crate::search::{Goal, Search};
+use crate::steps::LimitedNet;
 use network::{Amount, Answer, Engine, Network, Side};
 
 /// The nodes that node 0 reaches over residual arcs, where the list says what each arc carries: from
@@ -16,7 +17,7 @@ pub fn reach(net: &Network, limit: Amount, flow: &[u32; 256]) -> Side
     ensures { Innermost net.now.nodes limit.value (arcs_of net.now) flow.now (inside result.bits) }
 {
     // however little is to be sent, it can go to the same nodes
-    Search::run(limit, net.arcs(), flow, 1, false).reached
+    Search::run(LimitedNet { net, limit }, flow, 1, Goal::AllNodes).reached
 }
 
 // Sends more along shortest paths until there is enough, or no path. Then the nodes that the last
@@ -26,17 +27,17 @@ fn solve(net: &Network, limit: Amount, wanted: Amount, flow: &mut [u32; 256]) ->
     ensures least { elim result [ Reached ↦ Unit {0} | Short side ↦ Innermost net.now.nodes limit.value (arcs_of net.now) flow.new (inside side.bits) ] }
     ensures rest { ZeroAfter (arcs_of net.now) flow.new }
 {
-    let arcs = net.arcs();
+    let limited = LimitedNet { net, limit };
     *flow = [0; 256];
     let mut missing = wanted.value();
     while missing > 0 {
-        let search = Search::run(limit, arcs, flow, missing, true);
+        let search = Search::run(limited, flow, missing, Goal::Sink);
         if !search.found() {
             return Answer::Short {
                 side: search.reached,
             };
         }
-        missing -= search.augment(arcs, flow);
+        missing -= search.augment(limited, flow);
     }
     Answer::Reached
 }

@@ -1,9 +1,10 @@
 // Paths of the residual network, and what is sent along them.
 ghost use Rattle.std.specs.Prelude.{◌≡◌, ◌+◌, ◌^◌, ◌<◌, ◌≤◌, true, length, ◌≢◌, slice_index};
 ghost use Rattle.path_engine.specs.Residual.{far_end, Shortest, changed};
-ghost use Rattle.path_engine.specs.Searches.{OfNetwork, has, room_at, Searched, Carries, Grown, passed};
+ghost use Rattle.path_engine.specs.Searches.{arcs_in, has, room_at, Searched, Carries, Grown, passed};
 
-use crate::search::Search;
+use crate::search::{Goal, Search};
+use crate::steps::LimitedNet;
 use flows::Arc;
 
 // Brings an amount to a node by an arc, and says from where.
@@ -26,17 +27,17 @@ fn pass(arc: Arc, flow: &mut [u32; 256], k: usize, node: u8, amount: u32) -> u8
 impl Search {
     /// Sends as much more as can go along the path that was found, one of the fewest arcs, and says
     /// how much.
-    pub(crate) fn augment(&self, arcs: &[Arc], flow: &mut [u32; 256]) -> u32
-        requires arcs { OfNetwork arcs.now }
-        requires flow { Carries self.now.limit.value arcs.now flow.old }
-        requires searched { Searched self.now.limit.value arcs.now flow.old true self.now }
+    pub(crate) fn augment(&self, net: LimitedNet<'_>, flow: &mut [u32; 256]) -> u32
+        requires flow { Carries net flow.old }
+        requires searched { Searched net flow.old Goal.Sink self.now }
         requires found { has self.now 1 ≡ true }
-        ensures shortest { Shortest self.now.limit.value arcs.now flow.old 1 (changed flow.old flow.new (length arcs.now)) }
-        ensures grown { Grown self.now.limit.value arcs.now flow.old flow.new result }
+        ensures shortest { Shortest net.entry.limit.value (arcs_in net.entry) flow.old 1 (changed flow.old flow.new (length (arcs_in net.entry))) }
+        ensures grown { Grown net.entry flow.old flow.new result }
         ensures all { result ≡ room_at self.now 1 }
         ensures some { (0 < result) × (result ≤ room_at self.now 0) }
     {
-        let amount = self.room[1];
+        let arcs = net.arcs();
+        let amount = self.labels[1].room;
         let mut node = 1;
         while node != 0 {
             let k = self.came[node as usize] as usize;

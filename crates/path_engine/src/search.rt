@@ -1,37 +1,46 @@
 // The breadth-first search over the residual network.
-ghost use Rattle.std.specs.Prelude.{◌≡◌, ◌<◌, ◌≤◌, ◌&&◌, [], ◌∷◌, ◌++◌, length};
-ghost use Rattle.line.specs.Waiting.{waiting, capacity};
-ghost use Rattle.path_engine.specs.Searches.{OfNetwork, has, depth_at, room_at, TaskOf, effort, Turn, Searched, begun, discovered};
+ghost use Rattle.std.specs.Prelude.{◌≡◌, ◌<◌, ◌≤◌, ◌↔◌, true, [], ◌∷◌, ◌++◌, length, IsTrue};
+ghost use Rattle.path_engine.specs.Searches.{arcs_in, has, depth_at, room_at, effort, Turn, Searched, begun, discovered};
 
-use crate::steps::{Step, step_from};
-use flows::Arc;
-use line::{Line, Visit};
-use network::{Amount, Side};
+use crate::steps::{LimitedNet, Step, step_from};
+use line::{NodeLine, Visit};
+use network::Side;
 
-/// What a search under a limit found: the nodes that it reached, and for each of them the arc that
-/// it came by, how many arcs lead there, and the bottleneck of these: how much more can go there.
+/// Where a search is to come: to node 1, or to every node that it can.
+#[derive(Clone, Copy, PartialEq, Eq)]
+pub(crate) enum Goal {
+    Sink,
+    AllNodes,
+}
+
+/// What is known of a node that was reached: how many arcs lead there, and the bottleneck of these,
+/// how much more can go there.
+#[derive(Clone, Copy)]
+pub(crate) struct Label {
+    depth: u8,
+    pub(crate) room: u32,
+}
+
+/// What a search found: the nodes that it reached, the arc that each of them came by, once its visit
+/// has left the line, and what else is known of each.
 #[derive(Drop)]
 pub(crate) struct Search {
-    limit: Amount,
     pub(crate) reached: Side,
     pub(crate) came: [u8; 64],
-    depth: [u8; 64],
-    pub(crate) room: [u32; 64],
+    pub(crate) labels: [Label; 64],
 }
 
 impl Search {
     // Node 0 alone, where so much is to be sent.
-    fn begin(limit: Amount, most: u32) -> Search
-        ensures { result ≡ begun limit most }
+    fn begin(most: u32) -> Search
+        ensures { result ≡ begun most }
     {
-        let mut room = [0; 64];
-        room[0] = most;
+        let mut labels = [Label { depth: 0, room: 0 }; 64];
+        labels[0].room = most;
         Search {
-            limit,
             reached: Side { bits: 1 },
             came: [0; 64],
-            depth: [0; 64],
-            room,
+            labels,
         }
     }
 
@@ -43,45 +52,47 @@ impl Search {
     }
 
     // Whether a search that is only to node 1 has reached it.
-    fn stops(&self, to_sink: bool) -> bool
-        ensures { result ≡ (to_sink && has self.now 1) }
+    fn stops(&self, aim: Goal) -> bool
+        ensures { IsTrue result ↔ ((aim ≡ Goal.Sink) × (has self.now 1 ≡ true)) }
     {
-        to_sink && self.found()
+        aim == Goal::Sink && self.found()
     }
 
     // Enters the new node that a step by an arc leads to, and lets it wait.
-    fn discover(&mut self, line: &mut Line<'_, Visit>, from: u8, step: Step, arc: u8)
+    fn discover(&mut self, line: &mut NodeLine<'_, Visit>, from: u8, step: Step, arc: u8)
         requires nodes { (from < 64) × (step.to < 64) }
         requires low { depth_at self.old from < 64 }
-        requires places { length (waiting line.old) < capacity line.old }
+        requires places { length line.old < 64 }
         ensures search { self.new ≡ discovered self.old from step }
-        ensures line { waiting line.new ≡ waiting line.old ++ record { node = step.to; arc = arc } ∷ [] }
-        ensures places { capacity line.new ≡ capacity line.old }
+        ensures line { line.new ≡ line.old ++ record { node = step.to; arc = arc } ∷ [] }
     {
-        let to = step.to as usize;
         let bits = self.reached.bits | 1 << step.to;
         self.reached = Side { bits };
-        self.depth[to] = self.depth[from as usize] + 1;
-        self.room[to] = step.residual.min(self.room[from as usize]);
-        let visit = Visit { node: step.to, arc };
-        let Ok(()) = line.push(visit) else {
-            unreachable()
+        let near = self.labels[from as usize];
+        self.labels[step.to as usize] = Label {
+            depth: near.depth + 1,
+            room: step.residual.min(near.room),
         };
+        line.push(Visit { node: step.to, arc });
     }
 
     // Follows each arc of a node: what it leads to joins the line, if it is new and more can go
     // there.
-    fn expand(&mut self, line: &mut Line<'_, Visit>, arcs: &[Arc], flow: &[u32; 256], node: u8)
-        requires arcs { OfNetwork arcs.now }
-        requires places { capacity line.old ≡ 64 }
-        requires turn { Turn self.old.limit.value arcs.now flow.now self.old (waiting line.old) node 0 }
-        ensures places { capacity line.new ≡ 64 }
-        ensures turn { Turn self.new.limit.value arcs.now flow.now self.new (waiting line.new) node (length arcs.now) }
-        ensures task { TaskOf self.new self.old.limit (room_at self.old 0) }
-        ensures fewer { effort self.new (waiting line.new) ≤ effort self.old (waiting line.old) }
+    fn expand(
+        &mut self,
+        line: &mut NodeLine<'_, Visit>,
+        net: LimitedNet<'_>,
+        flow: &[u32; 256],
+        node: u8,
+    )
+        requires { Turn net flow.now self.old line.old node 0 }
+        ensures turn { Turn net.entry flow.now self.new line.new node (length (arcs_in net.entry)) }
+        ensures most { room_at self.new 0 ≡ room_at self.old 0 }
+        ensures fewer { effort self.new line.new ≤ effort self.old line.old }
     {
-        for k in 0..arcs.len() {
-            let step = step_from(arcs[k], flow[k], self.limit, node);
+        let arcs = net.arcs();
+        for (k, arc) in arcs.iter().enumerate() {
+            let step = step_from(*arc, flow[k], net.limit, node);
             if step.residual > 0 && !self.reached.holds(step.to) {
                 self.discover(line, node, step, k as u8);
             }
@@ -91,29 +102,20 @@ impl Search {
     /// Searches from node 0, nearest nodes first, for where more can go, at most so much. A search
     /// that is only to node 1 expands no node any more once that is reached, but still takes each
     /// visit that waits, so that the arc to every node is known.
-    pub(crate) fn run(
-        limit: Amount,
-        arcs: &[Arc],
-        flow: &[u32; 256],
-        most: u32,
-        to_sink: bool,
-    ) -> Search
-        requires arcs { OfNetwork arcs.now }
-        requires some { 0 < most }
-        ensures searched { Searched limit.value arcs.now flow.now to_sink result }
-        ensures task { TaskOf result limit most }
+    pub(crate) fn run(net: LimitedNet<'_>, flow: &[u32; 256], most: u32, aim: Goal) -> Search
+        requires { 0 < most }
+        ensures searched { Searched net.entry flow.now aim result }
+        ensures most { room_at result 0 ≡ most }
     {
         let start = Visit { node: 0, arc: 0 };
         let mut places = [start; 64];
-        let mut line = Line::new(&mut places);
-        let mut search = Search::begin(limit, most);
-        let Ok(()) = line.push(start) else {
-            unreachable()
-        };
+        let mut line = NodeLine::new(&mut places);
+        line.push(start);
+        let mut search = Search::begin(most);
         while let Some(visit) = line.pop() {
             search.came[visit.node as usize] = visit.arc;
-            if !search.stops(to_sink) {
-                search.expand(&mut line, arcs, flow, visit.node);
+            if !search.stops(aim) {
+                search.expand(&mut line, net, flow, visit.node);
             }
         }
         search

@@ -1,9 +1,26 @@
 // The steps of the residual network: an arc, as one of its ends sees it.
 ghost use Rattle.std.specs.Prelude.{◌≡◌};
 ghost use Rattle.path_engine.specs.Residual.{far_end, residual_of};
+ghost use Rattle.path_engine.specs.Searches.{arcs_in};
 
 use flows::Arc;
-use network::Amount;
+use network::{Amount, Network};
+
+/// A network under a limit.
+#[derive(Clone, Copy)]
+pub(crate) struct LimitedNet<'a> {
+    pub(crate) net: &'a Network,
+    pub(crate) limit: Amount,
+}
+
+impl<'a> LimitedNet<'a> {
+    /// The arcs, in the order in which they were given.
+    pub(crate) fn arcs(self) -> &'a [Arc]
+        ensures { result.now ≡ arcs_in self.entry }
+    {
+        self.net.arcs()
+    }
+}
 
 /// The other end of an arc that ends at a node.
 pub fn far_end(arc: Arc, node: u8) -> u8

@@ -43,12 +43,11 @@ impl<T: Copy + NamesNode> Line<'_, T> {
         ensures means { MatchBool result (SomeNames T.NamesNode.node node (waiting self.now))
             (SomeNames T.NamesNode.node node (waiting self.now) → ⊥) }
     {
-        let places = &*self.places;
-        for k in 0..self.len() {
-            if places[self.place(k)].node() == node {
-                return true;
-            }
-        }
-        false
+        let (after, first) = self.places.split_at(self.head);
+        first
+            .iter()
+            .chain(after.iter())
+            .take(self.count)
+            .any(|x| x.node() == node)
     }
 }

@@ -1,29 +1,14 @@
-use Rattle.std.proofs.Common.{◌≡◌, true, false, sym, ◌∙◌, arith}
-use Rattle.std.proofs.lemmas.List.{at_drop_all}
-use Rattle.std.proofs.lemmas.Bool.Decides.{nat_tests}
-use Rattle.line.specs.Waiting.{is_named, waiting}
-use Rattle.line.proofs.Waiting.{named_means, named_more, waiting_fits}
+use Rattle.std.proofs.Common.{◌==◌, drop, take, rules}
+use borrow.Author.Tests.{tests}
+use Rattle.std.proofs.lemmas.Iterator.{YieldsList-from_slice, YieldsList-from_take}
+use Rattle.std.proofs.lemmas.Iterator.Consumers.{YieldsList-from_chain}
+use Rattle.std.proofs.lemmas.Iterator.Search.{any_from_yields_List}
+use Rattle.line.proofs.Waiting.{named_means}
 use Rattle.line.proofs.line.Line.is_waiting.Goals as goal
 
-pub place-requires : goal.place-requires
-place-requires g c = let fits = waiting_fits c.args.self.now in record { some = omega arith; once = omega arith }
-
-pub returns-then-node : goal.returns-then-node
-returns-then-node g c =
+pub returns-clause-means : goal.returns-clause-means
+returns-clause-means g c =
     let self = c.args.self.now in
-    let answer = is_named g.T.NamesNode.node c.args.node in
-    let more = named_more self g.T.NamesNode.node c.args.node _ _ _ (omega arith) c.place.ensures.is c.index-places-place.is in
-    let is : true ≡ answer (waiting self) = grind (arith, nat_tests) in
-    record { is = is; means = named_means _ _ _ true is }
-
-pub loop-k-preserved : goal.loop-k-preserved
-loop-k-preserved g c =
-    let more = named_more c.args.self.now g.T.NamesNode.node c.args.node _ _ _ (omega arith) c.place.ensures.is c.index-places-place.is in
-    grind (arith, nat_tests)
-
-pub returns : goal.returns
-returns g c =
-    let self = c.args.self.now in
-    let answer = is_named g.T.NamesNode.node c.args.node in
-    let is : false ≡ answer (waiting self) = sym (at_drop_all answer (waiting self) c.loop-k.k (omega arith)) ∙ c.loop-k.invariant in
-    record { is = is; means = named_means _ _ _ false is }
+    named_means _ _ _ _ (any_from_yields_List (λ x. g.T.NamesNode.node x == c.args.node) _ _ _ c.any.ensures.ran
+    (YieldsList-from_take self.count (YieldsList-from_chain (YieldsList-from_slice (drop self.head self.places.now) (cc)) (YieldsList-from_slice (take self.head self.places.now) (cc)) (cc) (cc)) (cc))
+    (λ x b q k. search (rules, tests)))

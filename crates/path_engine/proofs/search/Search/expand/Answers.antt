@@ -1,5 +1,5 @@
-use Rattle.std.proofs.Common.{◌≡◌, length, sym, ap, ◌∙◌, arith}
-use Rattle.line.specs.Waiting.{waiting, capacity}
+use Rattle.std.proofs.Common.{◌≡◌, length, sym, ◌∙◌, arith}
+use Rattle.path_engine.specs.Searches.{arcs_in}
 use Rattle.path_engine.proofs.Arcs.{end_few}
 use Rattle.path_engine.proofs.Searches.{skipped_as, joined_as}
 use Rattle.path_engine.proofs.search.Search.expand.Goals as goal
@@ -7,36 +7,39 @@ use Rattle.path_engine.proofs.search.Search.expand.Goals.{then-step-gt0+then-not
 
 pub discover-requires : goal.discover-requires
 discover-requires c =
-    let t = c.loop-k.invariant.1 in
+    let t = c.loop-k.invariant.0 in
+    let l = rw c.arcs-arcs.ensures at c.loop-k-test.true in
+    let to_is = rw c.arcs-arcs.ensures at c.step_from-step.ensures.to in
     record {
-      nodes = (t.tree.below c.args.node t.here, omega (arith, c.step_from-step.ensures.to, end_few _ c.requires.arcs c.loop-k.k c.loop-k-test.true c.args.node));
+      nodes = (t.tree.below c.args.node t.here, omega (arith, to_is, end_few c.args.net.net.now c.loop-k.k l c.args.node));
       low = omega (arith, t.tree.low c.args.node t.here);
-      places = omega (arith, t.once, c.loop-k.invariant.0);
+      places = omega (arith, t.once);
     }
 
 pub loop-k-preserved : goal.loop-k-preserved
 loop-k-preserved c =
     let i = c.loop-k.invariant in
-    let step = c.step_from-step.ensures in
+    let to_is = rw c.arcs-arcs.ensures at c.step_from-step.ensures.to in
+    let more-is = rw c.arcs-arcs.ensures at c.step_from-step.ensures.residual in
     elim c.if-step-gt0.branch [
       | then-step-gt0+then-not-holds w ↦
+          let l = rw c.arcs-arcs.ensures at c.loop-k-test.true in
           let next =
-          joined_as c.args.arcs.now c.args.flow.now c.loop-k.self (waiting c.loop-k.line) c.args.node c.loop-k.k c.if-step-gt0.self (waiting c.if-step-gt0.line) c.step_from-step.result
-          (w.self-is ∙ w.discover.ensures.search) (ap waiting w.line-is ∙ w.discover.ensures.line) i.1 c.requires.arcs c.loop-k-test.true step.to step.residual
-          w.if-step-gt0.true (sym w.if-not-holds.ensures) in
-          (ap capacity w.line-is ∙ (w.discover.ensures.places ∙ i.0), next.0, (next.1.0 ∙ i.2.0, next.1.1 ∙ i.2.1), omega (arith, next.2, i.3))
+          joined_as c.args.net c.args.flow.now c.loop-k.self c.loop-k.line c.args.node c.loop-k.k c.if-step-gt0.self c.if-step-gt0.line c.step_from-step.result
+          (w.self-is ∙ w.discover.ensures.search) (w.line-is ∙ w.discover.ensures.line) i.0 l to_is more-is w.if-step-gt0.true (sym w.if-not-holds.ensures) in
+          (next.0, next.1 ∙ i.1, omega (arith, next.2, i.2))
       | else-step-gt0 w ↦
           let next =
-          skipped_as c.args.arcs.now c.args.flow.now c.loop-k.self (waiting c.loop-k.line) c.args.node c.loop-k.k c.if-step-gt0.self (waiting c.if-step-gt0.line)
-          w.self-is (ap waiting w.line-is) i.1 (λ some. elim w.else-step-gt0.branch [
-            | else-step-gt0-via-then-step-gt0+else-not-holds w' ↦ rw (← step.to) (sym w'.if-not-holds.ensures)
-            | else-step-gt0-via-else-step-gt0 w' ↦ absurd (omega (arith, step.residual, w'.if-step-gt0.false))
+          skipped_as c.args.net c.args.flow.now c.loop-k.self c.loop-k.line c.args.node c.loop-k.k c.if-step-gt0.self c.if-step-gt0.line
+          w.self-is w.line-is i.0 (λ some. elim w.else-step-gt0.branch [
+            | else-step-gt0-via-then-step-gt0+else-not-holds w' ↦ rw (← to_is) (sym w'.if-not-holds.ensures)
+            | else-step-gt0-via-else-step-gt0 w' ↦ absurd (omega (arith, more-is, w'.if-step-gt0.false))
           ]) in
-          (ap capacity w.line-is ∙ i.0, next.0, (next.1.0 ∙ i.2.0, next.1.1 ∙ i.2.1), omega (arith, next.2, i.3))
+          (next.0, next.1 ∙ i.1, omega (arith, next.2, i.2))
     ]
 
 pub returns : goal.returns
 returns c =
     let i = c.loop-k.invariant in
-    let all : c.loop-k.k ≡ length c.args.arcs.now = omega arith in
-    record { places = i.0; turn = rw all at i.1; task = i.2; fewer = i.3 }
+    let all : c.loop-k.k ≡ length (arcs_in c.args.net) = rw (← c.arcs-arcs.ensures) (omega arith) in
+    record { turn = rw (← all) i.0; most = i.1; fewer = i.2 }

@@ -1,49 +1,31 @@
-use Rattle.std.proofs.Common.{List, [], ◌∷◌, ◌++◌, sym, refl, ap, ◌∙◌, subst}
-use Rattle.std.proofs.lemmas.Bool.{and_from, and_parts, both_ways}
-use Rattle.network.specs.declared.amounts.Amount.{Amount}
+use Rattle.std.proofs.Common.{[], ◌∷◌, ◌++◌, List, refl, ap, ◌∙◌}
 use Rattle.line.specs.declared.node.Visit.{Visit}
 use Rattle.path_engine.specs.declared.search.Search.{Search}
-use Rattle.path_engine.specs.Searches.{Searched, has, room_at}
+use Rattle.path_engine.specs.Searches.{room_at}
 use Rattle.path_engine.proofs.Searches.{begins_as, first_in, called, stopped, ended, done}
 use Rattle.path_engine.proofs.search.Search.run.Goals as goal
 
 pub loop-visit-init : goal.loop-visit-init
 loop-visit-init c =
-    let queued = c.in-Ok.ensures.queued ∙ ap (λ (w : List Visit). w ++ record { node = 0; arc = 0 } ∷ []) c.new-line.ensures.empty in
-    (c.in-Ok.ensures.room ∙ c.new-line.ensures.room, begins_as _ _ c.args.limit c.args.most _ _ _ c.requires.some c.begin-search.ensures queued, (refl, refl))
+    let queued = c.push.ensures ∙ ap (λ (w : List Visit). w ++ record { node = 0; arc = 0 } ∷ []) c.new-line.ensures in
+    (begins_as _ _ c.args.most _ _ _ c.requires c.begin-search.ensures queued, ap (λ (s : Search). room_at s 0) c.begin-search.ensures)
 
 pub bounds-search-visit : goal.bounds-search-visit
-bounds-search-visit c = first_in _ _ _ _ _ _ _ _ c.in-Some.ensures.first c.loop-visit.invariant.1
+bounds-search-visit c = first_in _ _ _ _ _ _ _ c.in-Some.ensures c.loop-visit.invariant.0
 
 pub expand-requires : goal.expand-requires
-expand-requires c =
-    let i = c.loop-visit.invariant in
-    record {
-      arcs = c.requires.arcs;
-      places = c.in-Some.ensures.room ∙ i.0;
-      turn = called _ _ _ _ _ _ _ _ c.in-Some.ensures.first i.1 (λ y z. both_ways _ (sym c.if-not-stops.ensures) (and_from _ _ y z));
-    }
+expand-requires c = called _ _ _ _ _ _ _ c.in-Some.ensures c.loop-visit.invariant.0 (λ y z. let both = c.if-not-stops.ensures.1 (y, z) in cc)
 
 pub loop-visit-preserved-then-not-stops : goal.loop-visit-preserved-then-not-stops
-loop-visit-preserved-then-not-stops c =
-    let i = c.loop-visit.invariant.2 in
-    let task = c.expand.ensures.task in
-    (c.expand.ensures.places, ended _ _ _ _ _ _ _ c.expand.ensures.turn, (task.0 ∙ i.0, task.1 ∙ i.1))
+loop-visit-preserved-then-not-stops c = (ended _ _ _ _ _ _ c.expand.ensures.turn, c.expand.ensures.most ∙ c.loop-visit.invariant.1)
 
 pub loop-visit-preserved : goal.loop-visit-preserved
 loop-visit-preserved c =
     let i = c.loop-visit.invariant in
-    let over = and_parts c.args.to_sink (has c.loop-visit.search 1) (sym c.if-not-stops.ensures) in
-    (c.in-Some.ensures.room ∙ i.0, stopped _ _ _ _ _ _ _ _ c.in-Some.ensures.first i.1 over.0 over.1, i.2)
+    let over = c.if-not-stops.ensures.0 refl in
+    (stopped _ _ _ _ _ _ _ c.in-Some.ensures i.0 over.0 over.1, i.1)
 
 pub returns : goal.returns
 returns c =
     let i = c.loop-visit.invariant in
-    let start = c.begin-search.ensures in
-    let limit_is = i.2.0 ∙ ap (λ (s : Search). s.limit) start in
-    record {
-      searched =
-          subst (λ (a : Amount). Searched a.value c.args.arcs.now c.args.flow.now c.args.to_sink c.loop-visit.search) limit_is
-          (done _ _ _ _ _ _ c.in_default-pop.ensures.first.0 i.1);
-      task = (limit_is, i.2.1 ∙ ap (λ (s : Search). room_at s 0) start);
-    }
+    record { searched = done _ _ _ _ _ c.in_default.ensures.0 i.0; most = i.1 }

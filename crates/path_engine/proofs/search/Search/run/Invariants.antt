@@ -1,11 +1,9 @@
 use Rattle.std.proofs.Common.{◌≡◌}
-use Rattle.line.specs.Waiting.{waiting, capacity}
-use Rattle.path_engine.specs.Searches.{Met, TaskOf, room_at, effort}
+use Rattle.path_engine.specs.Searches.{Met, room_at, effort}
 use Rattle.path_engine.proofs.search.Search.run.Given as goal
 
 abbrev pub invariant-loop-visit : goal.invariant-loop-visit
-invariant-loop-visit l =
-    (capacity l.line ≡ 64) × Met l.search.limit.value l.arcs l.flow l.to_sink l.search (waiting l.line) × TaskOf l.search l.initial.search.limit (room_at l.initial.search 0)
+invariant-loop-visit l = Met l.net l.flow l.aim l.search l.line × (room_at l.search 0 ≡ l.most)
 
 abbrev pub decreases-loop-visit : goal.decreases-loop-visit
-decreases-loop-visit l = effort l.search (waiting l.line)
+decreases-loop-visit l = effort l.search l.line
