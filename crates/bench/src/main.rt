@@ -11,8 +11,6 @@ use book::{JobFault, Outcome};
 use engines::AnyEngine;
 use job::Job;
 use loading::load;
-use path_engine::PathEngine;
-use push_engine::PushEngine;
 use report::refusal_line;
 use std::env;
 use std::io::{Read, Write};
@@ -30,17 +28,6 @@ const LINE: usize = 192;
 struct Sums {
     cost: u64,
     runs: u64,
-}
-
-/// The engine of this name.
-fn engine_of(name: &str) -> Option<AnyEngine> {
-    if name == "path" {
-        Some(AnyEngine::Path(PathEngine::new()))
-    } else if name == "push" {
-        Some(AnyEngine::Push(PushEngine::new()))
-    } else {
-        None
-    }
 }
 
 /// The sums with one planning more; a short one has no cost.
@@ -87,7 +74,7 @@ fn run(rt: &HostRuntime) -> anyhow::Result<()> {
     let (Some(plans), Some(name), None) = (args.next(), args.next(), args.next()) else {
         return Err(anyhow!(USAGE));
     };
-    let (Ok(plans), Some(mut engine)) = (plans.parse::<u32>(), engine_of(name.as_str())) else {
+    let (Ok(plans), Ok(mut engine)) = (plans.parse::<u32>(), name.parse::<AnyEngine>()) else {
         return Err(anyhow!(USAGE));
     };
     let mut bytes = Vec::new(rt.alloc());

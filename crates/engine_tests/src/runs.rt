@@ -19,12 +19,11 @@ fn run_once<E: Engine>(
     let mut flow = [7; 256];
     let answer = engine.run(&net, amount(limit)?, amount(wanted)?, &mut flow);
     assert!(rt; flow[255] == 0, "places after the last arc");
-    let mut size = 0u32;
-    for (k, arc) in arcs.iter().enumerate() {
-        if arc.tail == 0 && k < 256 {
-            size = size.saturating_add(flow[k]);
-        }
-    }
+    let size = arcs
+        .iter()
+        .zip(&flow)
+        .filter(|(arc, _)| arc.tail == 0)
+        .fold(0u32, |sum, (_, x)| sum.saturating_add(*x));
     match answer {
         Answer::Reached => Ok((size, 0)),
         Answer::Short { side } => Ok((size, side.bits)),
@@ -78,22 +77,22 @@ fn cycles<E: Engine>(rt: &impl Abort, engine: &mut E) -> Result<(), Fail> {
     Ok(())
 }
 
-#[test]
-fn path_engine_runs(rt: HostRuntime) -> Result<(), Fail> {
-    let mut engine = PathEngine::new();
-    edges(&rt, &mut engine)?;
-    cycles(&rt, &mut engine)?;
+/// All the runs with one engine.
+fn nine_runs<E: Engine>(rt: &impl Abort, engine: &mut E) -> Result<(), Fail> {
+    edges(rt, engine)?;
+    cycles(rt, engine)?;
     assert_eq!(rt; engine.count(), 9);
     Ok(())
 }
 
 #[test]
+fn path_engine_runs(rt: HostRuntime) -> Result<(), Fail> {
+    nine_runs(&rt, &mut PathEngine::new())
+}
+
+#[test]
 fn push_engine_runs(rt: HostRuntime) -> Result<(), Fail> {
-    let mut engine = PushEngine::new();
-    edges(&rt, &mut engine)?;
-    cycles(&rt, &mut engine)?;
-    assert_eq!(rt; engine.count(), 9);
-    Ok(())
+    nine_runs(&rt, &mut PushEngine::new())
 }
 
 #[test]

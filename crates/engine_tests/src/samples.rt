@@ -21,15 +21,10 @@ pub(crate) fn counted(tail: u8, head: u8) -> Arc {
 /// The network of these nodes and arcs.
 pub(crate) fn network_of(nodes: u8, arcs: &[Arc]) -> Result<Network, Fail> {
     let mut net = Network::empty();
-    match net.fill(nodes, arcs) {
-        Ok(()) => Ok(net),
-        Err(_) => Err(Fail::new("no network")),
-    }
+    net.fill(nodes, arcs)?;
+    Ok(net)
 }
 
 pub(crate) fn amount(value: u32) -> Result<Amount, Fail> {
-    match Amount::try_from(value) {
-        Ok(amount) => Ok(amount),
-        Err(_) => Err(Fail::new("no amount")),
-    }
+    Ok(Amount::try_from(value)?)
 }

@@ -22,13 +22,8 @@ fn search_once<E: Engine>(
     let net = network_of(5, arcs)?;
     let mut flow = [0; 256];
     let mut trail = [UNUSED; 5];
-    match search(&net, amount(wanted)?, engine, &mut flow, &mut trail) {
-        Ok(found) => {
-            let [a, b, c, d, e] = trail;
-            Ok((found, [a.limit, b.limit, c.limit, d.limit, e.limit]))
-        }
-        Err(_) => Err(Fail::new("refused")),
-    }
+    let found = search(&net, amount(wanted)?, engine, &mut flow, &mut trail)?;
+    Ok((found, trail.map(|step| step.limit)))
 }
 
 /// Three nozzles that are fed 20, 12 and 1.
@@ -72,23 +67,23 @@ fn no_limit_will_do<E: Engine>(rt: &impl Abort, engine: &mut E) -> Result<(), Fa
     Ok(())
 }
 
-#[test]
-fn path_engine_searches(rt: HostRuntime) -> Result<(), Fail> {
-    let mut engine = PathEngine::new();
-    four_runs(&rt, &mut engine)?;
+/// Both searches with one engine.
+fn two_searches<E: Engine>(rt: &impl Abort, engine: &mut E) -> Result<(), Fail> {
+    four_runs(rt, engine)?;
     assert_eq!(rt; engine.count(), 4);
-    no_limit_will_do(&rt, &mut engine)?;
+    no_limit_will_do(rt, engine)?;
     assert_eq!(rt; engine.count(), 7);
     Ok(())
 }
 
 #[test]
+fn path_engine_searches(rt: HostRuntime) -> Result<(), Fail> {
+    two_searches(&rt, &mut PathEngine::new())
+}
+
+#[test]
 fn push_engine_searches(rt: HostRuntime) -> Result<(), Fail> {
-    let mut engine = PushEngine::new();
-    four_runs(&rt, &mut engine)?;
-    no_limit_will_do(&rt, &mut engine)?;
-    assert_eq!(rt; engine.count(), 7);
-    Ok(())
+    two_searches(&rt, &mut PushEngine::new())
 }
 
 #[test]
@@ -97,10 +92,10 @@ fn short_trails_are_refused(rt: HostRuntime) -> Result<(), Fail> {
     let net = network_of(5, &three_nozzles())?;
     let mut flow = [9; 256];
     let mut trail = [UNUSED; 3];
-    match search(&net, amount(33)?, &mut engine, &mut flow, &mut trail) {
-        Ok(_) => return Err(Fail::new("searched")),
-        Err(fault) => assert_eq!(rt; (fault.number(), fault.layer(), fault.place()), (9, 2, 4)),
-    }
+    let fault = search(&net, amount(33)?, &mut engine, &mut flow, &mut trail).expect_err(
+        &rt, "searched",
+    );
+    assert_eq!(rt; (fault.number(), fault.layer(), fault.place()), (9, 2, 4));
     assert_eq!(rt; engine.count(), 0);
     assert!(rt; flow[0] == 9 && flow[255] == 9);
     let [first, _, last] = trail;

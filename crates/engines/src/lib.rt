@@ -1,11 +1,16 @@
 // Either of the two flow engines, chosen while the program runs.
 #![tactic(auto)]
 
+ghost use Rattle.std.specs.Prelude.{Some, codes};
 ghost use Rattle.engines.specs.Counts.{count_of};
+ghost use Rattle.engines.specs.Names.{Names};
 
 use network::{Amount, Answer, Engine, Network};
 use path_engine::PathEngine;
 use push_engine::PushEngine;
+use std::error::Error;
+use std::fmt;
+use std::str::FromStr;
 
 /// An engine of either kind.
 #[derive(Drop)]
@@ -34,6 +39,35 @@ impl Engine for AnyEngine {
         match self {
             AnyEngine::Path(engine) => engine.run(net, limit, wanted, flow),
             AnyEngine::Push(engine) => engine.run(net, limit, wanted, flow),
+        }
+    }
+}
+
+/// The refusal of a text that names no engine.
+#[derive(Clone, Copy, PartialEq, Eq, Debug)]
+pub struct NoEngine;
+
+impl fmt::Display for NoEngine {
+    ghost output = { λ _. Some (codes "the engine is path or push") };
+
+    fn fmt<W: fmt::Write>(&self, f: &mut fmt::Formatter<W>) -> fmt::Result {
+        write!(f, "the engine is path or push")
+    }
+}
+
+impl Error for NoEngine {}
+
+/// The engine that a text names, `path` or `push`, as one that has made no run.
+impl FromStr for AnyEngine {
+    type Err = NoEngine;
+
+    ghost from_str_gives = { Names };
+
+    fn from_str(name: &str) -> Result<AnyEngine, NoEngine> {
+        match name {
+            "path" => Ok(AnyEngine::Path(PathEngine::new())),
+            "push" => Ok(AnyEngine::Push(PushEngine::new())),
+            _ => Err(NoEngine),
         }
     }
 }

@@ -5,8 +5,6 @@
 use anyhow::anyhow;
 use engines::AnyEngine;
 use network::{Amount, Answer, Arc, Capacity, Engine, Network};
-use path_engine::PathEngine;
-use push_engine::PushEngine;
 use std::alloc::{AllocError, Global};
 use std::env;
 
@@ -58,9 +56,8 @@ fn repeat<E: Engine>(
 ) -> u32 {
     let mut flow = [0; 256];
     let mut reached = 0u32;
-    for i in 0..runs {
-        let limit = if i % 2 == 0 { limits[0] } else { limits[1] };
-        if let Answer::Reached = engine.run(net, limit, wanted, &mut flow) {
+    for limit in limits.iter().cycle().take(runs as usize) {
+        if let Answer::Reached = engine.run(net, *limit, wanted, &mut flow) {
             reached = reached.saturating_add(1);
         }
     }
@@ -68,21 +65,7 @@ fn repeat<E: Engine>(
 }
 
 fn amount(value: u32) -> anyhow::Result<Amount> {
-    match Amount::try_from(value) {
-        Ok(amount) => Ok(amount),
-        Err(_) => Err(anyhow!("the amount is too large")),
-    }
-}
-
-/// The engine of this name.
-fn engine_of(name: &str) -> anyhow::Result<AnyEngine> {
-    if name == "path" {
-        Ok(AnyEngine::Path(PathEngine::new()))
-    } else if name == "push" {
-        Ok(AnyEngine::Push(PushEngine::new()))
-    } else {
-        Err(anyhow!("the engine is path or push"))
-    }
+    Amount::try_from(value).map_err(|_| anyhow!("the amount is too large"))
 }
 
 fn run(rt: &HostRuntime) -> anyhow::Result<()> {
@@ -92,13 +75,12 @@ fn run(rt: &HostRuntime) -> anyhow::Result<()> {
         return Err(anyhow!("usage: flow_bench RUNS ENGINE, with path or push for ENGINE"));
     };
     let runs = runs.parse::<u32>()?;
-    let mut engine = engine_of(name.as_str())?;
+    let mut engine = name.parse::<AnyEngine>()?;
     let arcs = full_board(rt.alloc())?;
     let mut net = Network::empty();
-    let Ok(()) = net.fill(TYPES + NOZZLES + 2, arcs.as_slice()) else {
-        return Err(anyhow!("the board is no network"));
-    };
-    let limits = [amount(LIMITS[0])?, amount(LIMITS[1])?];
+    net.fill(TYPES + NOZZLES + 2, arcs.as_slice())
+        .map_err(|_| anyhow!("the board is no network"))?;
+    let limits = LIMITS.try_map(amount)?;
     let wanted = amount(WANTED)?;
     let reached = repeat(&mut engine, &net, limits, wanted, runs);
     println!(rt; "{name} runs {runs} reached {reached}")?;

@@ -1,6 +1,7 @@
 // The networks that are tried: every one of a small kind, and random ones.
-use crate::held::{Case, run_agrees, search_agrees};
-use crate::listed::{bit, least_capacity, sizes};
+use crate::held::Case;
+use crate::listed::bit;
+use engines::AnyEngine;
 use network::{Arc, Capacity, Network};
 use path_engine::PathEngine;
 use push_engine::PushEngine;
@@ -10,58 +11,68 @@ use std::alloc::{AllocError, Global};
 /// that admits a size need not exceed it.
 const MOST: u32 = 4;
 
-/// What was tried, with the engines that tried it.
-#[derive(Drop)]
+/// What was tried.
+#[derive(Clone, Copy)]
 pub(crate) struct Tally {
     pub(crate) networks: u32,
     pub(crate) runs: u32,
     pub(crate) searches: u32,
     pub(crate) disagreements: u32,
-    path: PathEngine,
-    push: PushEngine,
 }
 
 impl Tally {
-    pub(crate) fn new() -> Tally {
-        Tally {
-            networks: 0,
-            runs: 0,
-            searches: 0,
-            disagreements: 0,
-            path: PathEngine::new(),
-            push: PushEngine::new(),
-        }
-    }
-
     fn note(&mut self, agrees: bool) {
         if !agrees {
             self.disagreements = self.disagreements.saturating_add(1);
         }
     }
+}
+
+/// Both engines, and what was tried with them.
+#[derive(Drop)]
+pub(crate) struct Trial {
+    engines: [AnyEngine; 2],
+    pub(crate) tally: Tally,
+}
+
+impl Trial {
+    pub(crate) fn new() -> Trial {
+        Trial {
+            engines: [
+                AnyEngine::Path(PathEngine::new()),
+                AnyEngine::Push(PushEngine::new()),
+            ],
+            tally: Tally {
+                networks: 0,
+                runs: 0,
+                searches: 0,
+                disagreements: 0,
+            },
+        }
+    }
 
     /// Tries both engines under one limit.
     fn try_runs(&mut self, case: &Case<'_>, limit: u32, wanted: u32, listed: u64) {
-        let by_path = run_agrees(&mut self.path, case, limit, wanted, listed);
-        self.note(by_path);
-        let by_push = run_agrees(&mut self.push, case, limit, wanted, listed);
-        self.note(by_push);
-        self.runs = self.runs.saturating_add(2);
+        for engine in self.engines.iter_mut() {
+            self.tally
+                .note(case.run_agrees(engine, limit, wanted, listed));
+            self.tally.runs = self.tally.runs.saturating_add(1);
+        }
     }
 
     /// Tries the search with both engines.
-    fn try_searches(&mut self, case: &Case<'_>, wanted: u32, least: Option<u32>) {
-        let by_path = search_agrees(&mut self.path, case, wanted, least);
-        self.note(by_path);
-        let by_push = search_agrees(&mut self.push, case, wanted, least);
-        self.note(by_push);
-        self.searches = self.searches.saturating_add(2);
+    fn try_searches(&mut self, case: &Case<'_>, wanted: u32, least: Option<usize>) {
+        for engine in self.engines.iter_mut() {
+            self.tally.note(case.search_agrees(engine, wanted, least));
+            self.tally.searches = self.tally.searches.saturating_add(1);
+        }
     }
 
     /// Tries a network with every wanted size and limit.
     fn try_network(&mut self, heap: Global, nodes: u8, arcs: &[Arc]) -> Result<(), AllocError> {
         let mut net = Network::empty();
         if net.fill(nodes, arcs).is_err() {
-            self.note(false);
+            self.tally.note(false);
             return Ok(());
         }
         let case = Case {
@@ -72,9 +83,10 @@ impl Tally {
         let mut flow = vec![in heap; 0u32; arcs.len()]?;
         let mut by_limit = Vec::new(heap);
         for limit in 0..=MOST {
-            let listed = sizes(nodes, arcs, limit, flow.as_mut_slice());
-            let least = least_capacity(nodes, arcs, limit);
-            self.note(listed & bit(least) != 0 && listed & bit(least.saturating_add(1)) == 0);
+            let listing = case.under(limit);
+            let listed = listing.sizes(flow.as_mut_slice());
+            let least = listing.least_capacity();
+            self.tally.note(listed & bit(least) != 0 && listed & bit(least.saturating_add(1)) == 0);
             by_limit.push(listed)?;
             for wanted in 0..=MOST {
                 self.try_runs(&case, limit, wanted, listed);
@@ -84,55 +96,46 @@ impl Tally {
             let least = least_limit(by_limit.as_slice(), wanted);
             self.try_searches(&case, wanted, least);
         }
-        self.networks = self.networks.saturating_add(1);
+        self.tally.networks = self.tally.networks.saturating_add(1);
         Ok(())
     }
 }
 
 /// The least limit under which some flow has the wanted size.
-fn least_limit(by_limit: &[u64], wanted: u32) -> Option<u32> {
-    let mut limit = 0u32;
-    for listed in by_limit {
-        if listed & bit(i64::from(wanted)) != 0 {
-            return Some(limit);
-        }
-        limit = limit.saturating_add(1);
-    }
-    None
+fn least_limit(by_limit: &[u64], wanted: u32) -> Option<usize> {
+    let size = bit(i64::from(wanted));
+    by_limit.iter().position(|listed| listed & size != 0)
 }
 
 /// The places for arcs in a network of four nodes: from the source, to the sink and both ways
 /// between the two nodes inside.
 const PLACES: [(u8, u8); 7] = [(0, 1), (0, 2), (0, 3), (2, 3), (3, 2), (2, 1), (3, 1)];
 
-/// The arc at a place: none, one of capacity 1 or 2, or a counted one.
-fn arc_of(place: (u8, u8), kind: u32) -> Option<Arc> {
-    let (tail, head) = place;
-    let capacity = match kind {
-        0 => return None,
-        1 | 2 => Capacity::Fixed(kind),
-        _ => Capacity::Counted,
-    };
-    Some(Arc {
-        tail,
-        head,
-        capacity,
-    })
-}
+/// What can stand at a place: no arc, one of capacity 1 or 2, or a counted one.
+const CAPACITIES: [Option<Capacity>; 4] = [
+    None,
+    Some(Capacity::Fixed(1)),
+    Some(Capacity::Fixed(2)),
+    Some(Capacity::Counted),
+];
 
 /// Tries every network of four nodes with no arc, an arc of capacity 1 or 2, or a counted arc at
 /// each place: 4^7 networks.
-pub(crate) fn small_networks(heap: Global, tally: &mut Tally) -> Result<(), AllocError> {
-    for number in 0..16_384u32 {
+pub(crate) fn small_networks(heap: Global, trial: &mut Trial) -> Result<(), AllocError> {
+    for number in 0..16_384usize {
         let mut arcs = Vec::new(heap);
         let mut rest = number;
-        for place in PLACES {
-            if let Some(arc) = arc_of(place, rest % 4) {
-                arcs.push(arc)?;
+        for (tail, head) in PLACES {
+            if let Some(capacity) = CAPACITIES[rest % 4] {
+                arcs.push(Arc {
+                    tail,
+                    head,
+                    capacity,
+                })?;
             }
             rest /= 4;
         }
-        tally.try_network(heap, 4, arcs.as_slice())?;
+        trial.try_network(heap, 4, arcs.as_slice())?;
     }
     Ok(())
 }
@@ -186,19 +189,15 @@ pub(crate) fn random_networks(
     heap: Global,
     seed: u32,
     count: u32,
-    tally: &mut Tally,
+    trial: &mut Trial,
 ) -> Result<(), AllocError> {
     let mut random = Random { state: seed };
     for _ in 0..count {
         let nodes = random.below(4).saturating_add(2);
         let wishes = random.below(7);
         let mut arcs = Vec::new(heap);
-        for _ in 0..wishes {
-            if let Some(arc) = random.arc(nodes) {
-                arcs.push(arc)?;
-            }
-        }
-        tally.try_network(heap, nodes, arcs.as_slice())?;
+        arcs.extend((0..wishes).filter_map(|_| random.arc(nodes)))?;
+        trial.try_network(heap, nodes, arcs.as_slice())?;
     }
     Ok(())
 }

@@ -6,26 +6,25 @@ mod cases;
 mod held;
 mod listed;
 
-use cases::{Tally, random_networks, small_networks};
+use cases::{Tally, Trial, random_networks, small_networks};
 
 const SEED: u32 = 20_261_117;
 
 const RANDOM: u32 = 1_500;
 
 fn run(rt: &HostRuntime) -> anyhow::Result<()> {
-    let mut tally = Tally::new();
-    small_networks(rt.alloc(), &mut tally)?;
-    let networks = tally.networks;
+    let mut trial = Trial::new();
+    small_networks(rt.alloc(), &mut trial)?;
+    let networks = trial.tally.networks;
     println!(rt; "every network of the small kind: {networks}")?;
-    random_networks(rt.alloc(), SEED, RANDOM, &mut tally)?;
+    random_networks(rt.alloc(), SEED, RANDOM, &mut trial)?;
     println!(rt; "random networks: {RANDOM}, seed {SEED}")?;
     let Tally {
         networks,
         runs,
         searches,
         disagreements,
-        ..
-    } = tally;
+    } = trial.tally;
     println!(rt; "networks {networks}, runs {runs}, searches {searches}")?;
     println!(rt; "disagreements {disagreements}")?;
     Ok(())

@@ -9,16 +9,16 @@ use Rattle.flows.proofs.Sums.{sum_balance, sum_none, sum_le, sum_change, term_le
 use Rattle.path_engine.specs.Residual.{far_end, residual_of, end_at, Closed}
 use Rattle.push_engine.specs.declared.preflow.Task.{Task}
 use Rattle.push_engine.specs.declared.preflow.Preflow.{Preflow}
-use Rattle.push_engine.specs.Preflows.{limit_of, wanted_of, supply, Sized, Steep, Holds}
+use Rattle.push_engine.specs.Preflows.{limit_of, wanted_of, supply, Steep, Holds}
 use Rattle.push_engine.proofs.Pushes.{ends_at, end_in}
 use Rattle.push_engine.proofs.Gaps.{IsGap, gap}
 
 above : (g a b : ℕ) → a ≤ b + 1 → b ≢ g → ltb g a ≡ true → ltb g b ≡ true
 above g a b le ne lt = grind (arith, nat_tests)
 
-pub above_gap : (t : Task) (arcs : List Arc) (x d : List ℕ) (b g : ℕ) → Sized t arcs → Steep t arcs x d → IsGap (λ v. get_or d v 0) t.nodes b g → Closed (limit_of t) arcs x (λ v. ltb g (get_or d v 0))
-above_gap t arcs x d b g z steep i k u k-in high more =
-    above g (get_or d u 0) (get_or d (end_at arcs k u) 0) (steep k u k-in more) (i.free (end_at arcs k u) (end_in t arcs z k u k-in)) high
+pub above_gap : (t : Task) (x d : List ℕ) (b g : ℕ) → Steep t x d → IsGap (λ v. get_or d v 0) t.nodes b g → Closed (limit_of t) t.arcs.now x (λ v. ltb g (get_or d v 0))
+above_gap t x d b g steep i k u k-in high more =
+    above g (get_or d u 0) (get_or d (end_at t.arcs.now k u) 0) (steep k u k-in more) (i.free (end_at t.arcs.now k u) (end_in t k u k-in)) high
 
 -- a sum over the nodes of a set of what m arcs carry at the ends e: the sum over the arcs that end there
 module _ (p : ℕ → Bool) (n : ℕ) (e x : ℕ → ℕ) where
@@ -57,7 +57,10 @@ only_balance : (b : Bool) (i s o e : ℕ) → i + s ≡ o + e → only b s ≡ 0
 only_balance b i s o e h z = grind arith
 
 -- a closed set without node 0
-module _ (arcs : List Arc) (q : Preflow) (i : Holds arcs q) (p : ℕ → Bool) (source : p 0 ≡ false) (closed : Closed (limit_of q.task) arcs q.flow p) where
+module _ (q : Preflow) (i : Holds q) (p : ℕ → Bool) (source : p 0 ≡ false) (closed : Closed (limit_of q.task) q.task.arcs.now q.flow p) where
+  abbrev arcs : List Arc
+  arcs = q.task.arcs.now
+
   abbrev n : ℕ
   n = q.task.nodes
 
@@ -77,17 +80,17 @@ module _ (arcs : List Arc) (q : Preflow) (i : Holds arcs q) (p : ℕ → Bool) (
         arith,
         sum_balance (λ u. only (p u) (inflow u arcs q.flow)) (λ _. 0) (λ u. only (p u) (outflow u arcs q.flow)) (λ u. only (p u) (e u)) balanced n,
         sum_none (λ _. 0) n (λ _ _. omega arith),
-        by_arcs p n (λ k. (arc_at arcs k).head) x (length arcs) (λ k k-in. (ends_at q.task arcs i.sized k k-in).head_in),
-        by_arcs p n (λ k. (arc_at arcs k).tail) x (length arcs) (λ k k-in. (ends_at q.task arcs i.sized k k-in).tail_in),
+        by_arcs p n (λ k. (arc_at arcs k).head) x (length arcs) (λ k k-in. (ends_at q.task k k-in).head_in),
+        by_arcs p n (λ k. (arc_at arcs k).tail) x (length arcs) (λ k k-in. (ends_at q.task k k-in).tail_in),
         sum_le (λ k. only (p (arc_at arcs k).head) (x k)) (λ k. only (p (arc_at arcs k).tail) (x k)) (length arcs)
-            (λ k k-in. carried_in (limit_of q.task) (arc_at arcs k) (x k) p (ends_at q.task arcs i.sized k k-in).apart (λ u. closed k u k-in)),
+            (λ k k-in. carried_in (limit_of q.task) (arc_at arcs k) (x k) p (ends_at q.task k k-in).apart (λ u. closed k u k-in)),
         term_le (λ u. only (p u) (e u)) v n v-in,
       )
 
 -- nothing waits at a node at the ceiling, but at node 0
-pub nothing_high : (arcs : List Arc) (q : Preflow) → Holds arcs q → (v : ℕ) → v < q.task.nodes → 2 * q.task.nodes ≤ get_or q.heights v 0 → get_or q.excess v 0 ≡ 0
-nothing_high arcs q i v v-in high =
+pub nothing_high : (q : Preflow) → Holds q → (v : ℕ) → v < q.task.nodes → 2 * q.task.nodes ≤ get_or q.heights v 0 → get_or q.excess v 0 ≡ 0
+nothing_high q i v v-in high =
     let n = q.task.nodes in
     let g = gap (λ u. get_or q.heights u 0) n n v v-in (omega arith) in
-    nothing_waits arcs q i (λ u. ltb g.0 (get_or q.heights u 0)) (le-ltb g.0 (get_or q.heights 0 0) (omega (arith, g.1.from, i.labels.low 0)))
-    (above_gap q.task arcs q.flow q.heights n g.0 i.sized i.labels.steep g.1) v v-in (lt-ltb g.0 (get_or q.heights v 0) (omega (arith, g.1.low)))
+    nothing_waits q i (λ u. ltb g.0 (get_or q.heights u 0)) (le-ltb g.0 (get_or q.heights 0 0) (omega (arith, g.1.from, i.labels.low 0)))
+    (above_gap q.task q.flow q.heights n g.0 i.labels.steep g.1) v v-in (lt-ltb g.0 (get_or q.heights v 0) (omega (arith, g.1.low)))

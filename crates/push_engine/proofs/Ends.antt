@@ -8,18 +8,18 @@ use Rattle.flows.specs.Sums.{only}
 use Rattle.flows.specs.Flows.{no_arc, arc_at, sum_flow, inside, size, IsFlow}
 use Rattle.flows.proofs.Places.{zeros}
 use Rattle.flows.proofs.Sums.{sum_none}
-use Rattle.network.specs.declared.amounts.Amount.{Amount}
 use Rattle.network.specs.declared.nets.Network.{Network}
 use Rattle.network.specs.Nets.{arcs_of}
+use Rattle.network.specs.Rules.{CountsOk, ArcsOk}
 use Rattle.network.specs.Runs.{Reaches, FallsShort, ZeroAfter}
-use Rattle.network.proofs.Facts.{from_source}
 use Rattle.push_engine.specs.declared.preflow.Task.{Task}
 use Rattle.push_engine.specs.declared.preflow.Preflow.{Preflow}
 use Rattle.path_engine.specs.Residual.{Innermost}
 use Rattle.path_engine.proofs.Closed.{falls_short}
-use Rattle.push_engine.specs.Preflows.{ceiling, wanted_of, supply, Sized, Load, Labels, Holds, pending, fresh}
+use Rattle.push_engine.specs.Preflows.{ceiling, limit_of, wanted_of, supply, Load, Labels, Holds, pending, fresh}
 use Rattle.push_engine.specs.Moves.{Settled}
 use Rattle.push_engine.proofs.Sums.{weigh_set}
+use Rattle.push_engine.proofs.Pushes.{ends_at}
 use Rattle.push_engine.proofs.Gaps.{gap}
 use Rattle.push_engine.proofs.Cuts.{above_gap, nothing_high}
 
@@ -36,7 +36,7 @@ none_to_do : (p : Preflow) (u : ℕ) → get_or p.excess u 0 ≡ 0 → pending p
 none_to_do p u z h = grind (arith, nat_tests)
 
 -- the lists of a fresh preflow
-module _ (t : Task) (arcs : List Arc) (z : Sized t arcs) (x e d : List ℕ) (xs : length x ≡ 256) (es : length e ≡ 64) (ds : length d ≡ 64)
+module _ (t : Task) (x e d : List ℕ) (xs : length x ≡ 256) (es : length e ≡ 64) (ds : length d ≡ 64)
     (no-x : (k : ℕ) → get_or x k 0 ≡ 0) (no-e : (k : ℕ) → get_or e k 0 ≡ 0) (no-d : (k : ℕ) → get_or d k 0 ≡ 0) where
   abbrev start : Preflow
   start = record { task = t; flow = x; excess = set e 0 (wanted_of t); heights = d }
@@ -46,21 +46,20 @@ module _ (t : Task) (arcs : List Arc) (z : Sized t arcs) (x e d : List ℕ) (xs 
       let l : 0 < length e = omega arith in
       elim (cases_eq v 0) [ inl q ↦ rw (q, get_or-set_same) refl | inr ne ↦ rw get_or-set_other (omega (arith, no-e v, no_supply (wanted_of t) v ne)) ]
 
-  nothing : (p : Arc → Bool) → ◌≡◌ {A = ℕ} (sum_flow (λ a f. only (p a) f) arcs x) 0
-  nothing p = sum_none _ (length arcs) (λ i h. only_zero (p (arc_at arcs i)) (get_or x i 0) (no-x i))
+  nothing : (p : Arc → Bool) → ◌≡◌ {A = ℕ} (sum_flow (λ a f. only (p a) f) t.arcs.now x) 0
+  nothing p = sum_none _ (length t.arcs.now) (λ i h. only_zero (p (arc_at t.arcs.now i)) (get_or x i 0) (no-x i))
 
-  begins : Holds arcs start
+  begins : Holds start
   begins =
       let l : 0 < length e = omega arith in
       record {
-        sized = z;
         load = record {
           arcs_held = xs;
           nodes_held = length-set e 0 (wanted_of t) ∙ es;
           fits = λ k h. omega (arith, no-x k);
           rest = λ k h. no-x k;
           balanced = λ v. omega (arith, nothing (λ a. eqb a.head v), nothing (λ a. eqb a.tail v), waits_at v);
-          whole = omega (arith, weigh_set (λ _. 1) e t.nodes 0 (wanted_of t) (omega (arith, z.counts.0)) l, sum_none (λ v. get_or e v 0 * 1) t.nodes (λ v h. omega (arith, no-e v)), no-e 0);
+          whole = omega (arith, weigh_set (λ _. 1) e t.nodes 0 (wanted_of t) (omega (arith, t.counts.0)) l, sum_none (λ v. get_or e v 0 * 1) t.nodes (λ v h. omega (arith, no-e v)), no-e 0);
         };
         labels = record { held = ds; low = λ v. omega (arith, no-d v); sink = no-d 1; steep = λ k u h more. omega (arith, no-d u) };
       }
@@ -69,36 +68,24 @@ module _ (t : Task) (arcs : List Arc) (z : Sized t arcs) (x e d : List ℕ) (xs 
   only_source u h = elim (cases_eq u 0) [ inl q ↦ q | inr ne ↦ absurd (none_to_do start u (waits_at u ∙ no_supply (wanted_of t) u ne) h) ]
 
 -- what a run starts from
-abbrev pub Start : List Arc → Preflow → Type 0
-Start arcs p = Holds arcs p × ((u : ℕ) → pending p u ≡ true → u ≡ 0)
+abbrev pub Start : Preflow → Type 0
+Start p = Holds p × ((u : ℕ) → pending p u ≡ true → u ≡ 0)
 
-fresh_start : (t : Task) (arcs : List Arc) → Sized t arcs → Start arcs (fresh t)
-fresh_start t arcs z = (
-  begins t arcs z (replicate 256 0) (replicate 64 0) (replicate 64 0) refl refl refl (zeros 256) (zeros 64) (zeros 64),
-  only_source t arcs z (replicate 256 0) (replicate 64 0) (replicate 64 0) refl refl refl (zeros 256) (zeros 64) (zeros 64),
-)
+pub started : (t : Task) (p : Preflow) → p ≡ fresh t → Start p
+started t p is =
+    rw is (
+      begins t (replicate 256 0) (replicate 64 0) (replicate 64 0) refl refl refl (zeros 256) (zeros 64) (zeros 64),
+      only_source t (replicate 256 0) (replicate 64 0) (replicate 64 0) refl refl refl (zeros 256) (zeros 64) (zeros 64),
+    )
 
-abbrev pub task_of : Network → Amount → Amount → Task
-task_of net limit wanted = record { nodes = net.nodes; limit = limit; wanted = wanted }
+-- nodes and arcs of a network are those of a task
+module _ (net : Network) (n : ℕ) (arcs : List Arc) (nodes : n ≡ net.nodes) (is : arcs ≡ arcs_of net) where
+  pub counts_of : CountsOk n (length arcs)
+  counts_of = rw (nodes, is) (net.counts.0, net.counts.1, omega (arith, net.counts.2, length-take net.count net.table))
 
-net_sized : (net : Network) (limit wanted : Amount) → Sized (task_of net limit wanted) (arcs_of net)
-net_sized net limit wanted =
-    let long = length-take net.count net.table in
-    record {
-      counts = (net.counts.0, net.counts.1, omega (arith, net.counts.2));
-      rules = λ k h. let m : k < net.count = omega arith in rw (get_or-take net.count net.table k no_arc m) (net.rules k m);
-    }
-
--- the same as `solve` has it
-module _ (net : Network) (limit wanted : Amount) (arcs : List Arc) (n : ℕ) (p : Preflow) (is : arcs ≡ arcs_of net) (nodes : n ≡ net.nodes) (e : p ≡ fresh (record { nodes = n; limit = limit; wanted = wanted })) where
-  new : p ≡ fresh (task_of net limit wanted)
-  new = e ∙ ap (λ (k : ℕ). let u : Task = record { nodes = k; limit = limit; wanted = wanted } in fresh u) nodes
-
-  pub started : Start arcs p
-  started = rw is (subst (Start (arcs_of net)) (sym new) (fresh_start (task_of net limit wanted) (arcs_of net) (net_sized net limit wanted)))
-
-  pub settled : (q : Preflow) → Settled arcs p.task q → Settled (arcs_of net) (task_of net limit wanted) q
-  settled q s = subst (λ (u : Task). Settled (arcs_of net) u q) (ap (λ (o : Preflow). o.task) new) (subst (λ (l : List Arc). Settled l p.task q) is s)
+  pub rules_of : ArcsOk n (length arcs) arcs
+  rules_of =
+      rw (nodes, is) (λ k h. let m : k < net.count = omega (arith, length-take net.count net.table) in rw (get_or-take net.count net.table k no_arc m) (net.rules k m))
 
 -- at the end
 at_ceiling : (p : Preflow) (v : ℕ) → pending p v ≡ false → v ≢ 1 → v < p.task.nodes → 0 < get_or p.excess v 0 → ceiling p.task.nodes v ≤ get_or p.heights v 0
@@ -107,62 +94,63 @@ at_ceiling p v h ne v-in some = grind (arith, nat_tests)
 twice : (n v : ℕ) → v ≢ 0 → ceiling n v ≡ 2 * n
 twice n v ne = grind (arith, nat_tests)
 
-still : (arcs : List Arc) (p : Preflow) → Holds arcs p → (v : ℕ) → pending p v ≡ false → 1 < v → v < p.task.nodes → get_or p.excess v 0 ≡ 0
-still arcs p i v h two v-in =
+still : (p : Preflow) → Holds p → (v : ℕ) → pending p v ≡ false → 1 < v → v < p.task.nodes → get_or p.excess v 0 ≡ 0
+still p i v h two v-in =
     elim (cases_lt 0 (get_or p.excess v 0)) [
-      | inl some ↦ nothing_high arcs p i v v-in (omega (arith, at_ceiling p v h (omega arith) v-in some, twice p.task.nodes v (omega arith)))
+      | inl some ↦ nothing_high p i v v-in (omega (arith, at_ceiling p v h (omega arith) v-in some, twice p.task.nodes v (omega arith)))
       | inr none ↦ omega arith
     ]
 
-module _ (net : Network) (limit wanted : Amount) (p : Preflow) (s : Settled (arcs_of net) (task_of net limit wanted) p) where
-  abbrev t : Task
-  t = task_of net limit wanted
+-- for the network of the task
+module _ (net : Network) (t : Task) (q p : Preflow) (nodes : t.nodes ≡ net.nodes) (is : t.arcs.now ≡ arcs_of net) (from : q ≡ fresh t) (s : Settled q.task p) where
+  same : p.task ≡ t
+  same = s.same ∙ ap (λ (o : Preflow). o.task) from
 
-  abbrev arcs : List Arc
-  arcs = arcs_of net
+  load : Load t p.flow p.excess
+  load = subst (λ (u : Task). Load u p.flow p.excess) same s.holds.load
 
-  load : Load t arcs p.flow p.excess
-  load = subst (λ (u : Task). Load u arcs p.flow p.excess) s.same s.holds.load
+  labels : Labels t p.flow p.heights
+  labels = subst (λ (u : Task). Labels u p.flow p.heights) same s.holds.labels
 
-  labels : Labels t arcs p.flow p.heights
-  labels = subst (λ (u : Task). Labels u arcs p.flow p.heights) s.same s.holds.labels
+  nodes_same : p.task.nodes ≡ t.nodes
+  nodes_same = ap (λ (u : Task). u.nodes) same
 
-  nodes : p.task.nodes ≡ net.nodes
-  nodes = ap (λ (u : Task). u.nodes) s.same
-
-  is_flow : IsFlow net.nodes limit.value arcs p.flow
+  is_flow : IsFlow t.nodes t.limit.value t.arcs.now p.flow
   is_flow =
       record {
         fits = load.fits;
-        kept = λ v two v-in. omega (arith, load.balanced v, still arcs p s.holds v (s.idle v) two (omega (arith, nodes)), no_supply wanted.value v (omega arith));
+        kept = λ v two v-in. omega (arith, load.balanced v, still p s.holds v (s.idle v) two (omega (arith, nodes_same)), no_supply t.wanted.value v (omega arith));
       }
 
-  sized_by : size arcs p.flow + get_or p.excess 0 0 ≡ wanted.value
+  sized_by : size t.arcs.now p.flow + get_or p.excess 0 0 ≡ t.wanted.value
   sized_by =
       omega (
         arith,
         load.balanced 0,
-        sum_none (λ i. only (eqb (arc_at arcs i).head 0) (get_or p.flow i 0)) (length arcs) (λ i h. only_none (arc_at arcs i).head 0 (get_or p.flow i 0) (omega (arith, from_source net i h))),
+        sum_none (λ i. only (eqb (arc_at t.arcs.now i).head 0) (get_or p.flow i 0)) (length t.arcs.now) (λ i h. only_none (arc_at t.arcs.now i).head 0 (get_or p.flow i 0) (ends_at t i h).no_entry),
       )
 
-  pub rest : ZeroAfter arcs p.flow
-  rest = load.rest
+  pub rest : ZeroAfter (arcs_of net) p.flow
+  rest = rw (← is) load.rest
 
-  pub reaches : get_or p.excess 0 0 ≡ 0 → Reaches net.nodes limit.value wanted.value arcs p.flow
-  reaches z = record { is_flow = is_flow; full = omega (arith, sized_by) }
+  pub reaches : get_or p.excess 0 0 ≡ 0 → Reaches net.nodes t.limit.value t.wanted.value (arcs_of net) p.flow
+  reaches z = rw (← nodes, ← is) (record { is_flow = is_flow; full = omega (arith, sized_by) })
 
-  module _ (r : ℕ) (left : 0 < get_or p.excess 0 0) (i : Innermost net.nodes limit.value arcs p.flow (inside r)) where
+  module _ (r : ℕ) (left : 0 < get_or p.excess 0 0) (i : Innermost net.nodes t.limit.value (arcs_of net) p.flow (inside r)) where
     -- node 0 stands at its ceiling
-    top : net.nodes ≤ get_or p.heights 0 0
-    top = omega (arith, at_ceiling p 0 (s.idle 0) (omega arith) (omega (arith, nodes, net.counts.0)) left, nodes)
+    top : t.nodes ≤ get_or p.heights 0 0
+    top = omega (arith, at_ceiling p 0 (s.idle 0) (omega arith) (omega (arith, nodes_same, t.counts.0)) left, nodes_same)
 
     -- the nodes above a gap are a closed set with node 0 and without node 1
     no_sink : inside r 1 ≡ true → ⊥
     no_sink h =
-        let g = gap (λ v. get_or p.heights v 0) net.nodes 0 0 (omega (arith, net.counts.0)) (omega (arith, top)) in
-        let closed = above_gap t arcs p.flow p.heights 0 g.0 (net_sized net limit wanted) labels.steep g.1 in
-        let z = i.least (λ v. ltb g.0 (get_or p.heights v 0)) (lt-ltb g.0 (get_or p.heights 0 0) (omega (arith, top, g.1.low))) closed 1 h in
+        let g = gap (λ v. get_or p.heights v 0) t.nodes 0 0 (omega (arith, t.counts.0)) (omega (arith, top)) in
+        let closed = above_gap t p.flow p.heights 0 g.0 labels.steep g.1 in
+        let here : Innermost net.nodes t.limit.value t.arcs.now p.flow (inside r) = rw is i in
+        let z = here.least (λ v. ltb g.0 (get_or p.heights v 0)) (lt-ltb g.0 (get_or p.heights 0 0) (omega (arith, top, g.1.low))) closed 1 h in
         omega (arith, ltb-true g.0 (get_or p.heights 1 0) z, labels.sink)
 
-    pub short : FallsShort net.nodes limit.value wanted.value r arcs p.flow
-    short = falls_short net limit.value wanted.value r p.flow is_flow (omega (arith, sized_by)) i (false_from_ne_true (inside r 1) no_sink)
+    pub short : FallsShort net.nodes t.limit.value t.wanted.value r (arcs_of net) p.flow
+    short =
+        let less : size t.arcs.now p.flow < t.wanted.value = omega (arith, sized_by, left) in
+        falls_short net t.limit.value t.wanted.value r p.flow (rw (nodes, is) at is_flow) (rw is at less) i (false_from_ne_true (inside r 1) no_sink)

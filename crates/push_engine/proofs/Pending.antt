@@ -22,8 +22,8 @@ pub record Pends (p : Preflow) (v : ℕ) : Type 0 where
 pub pends : (p : Preflow) (v : ℕ) → pending p v ≡ true → Pends p v
 pends p v h = record { inside = grind (arith, nat_tests); no_sink = λ e. grind (arith, nat_tests); some = grind (arith, nat_tests) }
 
-pub past : (p : Preflow) → p.task.nodes ≤ 64 → (u : ℕ) → 64 ≤ u → pending p u ≡ false
-past p most u h = grind (arith, nat_tests)
+pub past : (p : Preflow) (u : ℕ) → 64 ≤ u → pending p u ≡ false
+past p u h = let most = p.task.counts.1 in grind (arith, nat_tests)
 
 -- without excess nothing is to be done, and with more excess no less
 pub empty : (p : Preflow) (v : ℕ) → get_or p.excess v 0 ≡ 0 → pending p v ≡ false
@@ -36,16 +36,19 @@ pub raised_other : (p : Preflow) (v h u : ℕ) → u ≢ v → pending (raised p
 raised_other p v h u ne = rw get_or-set_other refl
 
 -- the amount m leaves v by the arc k
-module _ (arcs : List Arc) (p q : Preflow) (v k m to : ℕ) (i : Holds arcs p) (v-in : v < p.task.nodes) (k-in : k < length arcs) (le : m ≤ get_or p.excess v 0)
-    (is : to ≡ end_at arcs k v) (e : q ≡ sent arcs p k v m) where
+module _ (p q : Preflow) (v k m to : ℕ) (i : Holds p) (v-in : v < p.task.nodes) (k-in : k < length p.task.arcs.now) (le : m ≤ get_or p.excess v 0)
+    (is : to ≡ end_at p.task.arcs.now k v) (e : q ≡ sent p k v m) where
+  abbrev arcs : List Arc
+  arcs = p.task.arcs.now
+
   pub to_in : to < 64
-  to_in = rw is (omega (arith, end_in p.task arcs i.sized k v k-in, i.sized.counts.1))
+  to_in = rw is (omega (arith, end_in p.task k v k-in, p.task.counts.1))
 
   apart : to ≢ v
-  apart = rw is (far_apart p.task.nodes (arc_at arcs k) v (ends_at p.task arcs i.sized k k-in))
+  apart = rw is (far_apart p.task.nodes (arc_at arcs k) v (ends_at p.task k k-in))
 
   excess_at : (u : ℕ) → get_or q.excess u 0 + only (eqb v u) m ≡ get_or p.excess u 0 + only (eqb to u) m
-  excess_at u = rw (e, is) (moved_at p.excess m v (end_at arcs k v) le (omega (arith, i.sized.counts.1, i.load.nodes_held)) (omega (arith, end_in p.task arcs i.sized k v k-in, i.sized.counts.1, i.load.nodes_held)) u)
+  excess_at u = rw (e, is) (moved_at p.excess m v (end_at arcs k v) le (omega (arith, p.task.counts.1, i.load.nodes_held)) (omega (arith, end_in p.task k v k-in, p.task.counts.1, i.load.nodes_held)) u)
 
   -- the amount is gone from v
   pub left_at : get_or q.excess v 0 + m ≡ get_or p.excess v 0

@@ -10,7 +10,7 @@ use Rattle.flows.proofs.Places.{sum_set, each_set}
 use Rattle.push_engine.specs.declared.preflow.Task.{Task}
 use Rattle.push_engine.specs.declared.preflow.Preflow.{Preflow}
 use Rattle.path_engine.specs.Residual.{far_end, residual_of, end_at, residual}
-use Rattle.push_engine.specs.Preflows.{limit_of, wanted_of, ceiling, moved, carried_after, Sized, Load, Steep, Holds, effort, sent, raised}
+use Rattle.push_engine.specs.Preflows.{limit_of, wanted_of, ceiling, moved, carried_after, Load, Steep, Holds, effort, sent, raised}
 use Rattle.push_engine.specs.Moves.{CanPush, CanRelabel, Stepped}
 use Rattle.flows.proofs.Sums.{sum_change, term_le}
 use Rattle.push_engine.proofs.Sums.{weigh_set, moved_long, weigh_moved, moved_at}
@@ -20,18 +20,19 @@ pub record Ends (n : ℕ) (a : Arc) : Type 0 where
   pub tail_in : a.tail < n
   pub head_in : a.head < n
   pub apart : a.tail ≢ a.head
+  pub no_entry : a.head ≢ 0
 
 ends : (n : ℕ) (a : Arc) → arc_ok n a ≡ true → Ends n a
-ends n a h = record { tail_in = grind (arith, nat_tests); head_in = grind (arith, nat_tests); apart = λ e. grind (arith, nat_tests) }
+ends n a h = record { tail_in = grind (arith, nat_tests); head_in = grind (arith, nat_tests); apart = λ e. grind (arith, nat_tests); no_entry = λ e. grind (arith, nat_tests) }
 
 far_in : (n : ℕ) (a : Arc) (v : ℕ) → Ends n a → far_end a v < n
 far_in n a v e = let t = e.tail_in in let h = e.head_in in grind arith
 
-pub ends_at : (t : Task) (arcs : List Arc) → Sized t arcs → (k : ℕ) → k < length arcs → Ends t.nodes (arc_at arcs k)
-ends_at t arcs z k h = ends t.nodes (arc_at arcs k) (z.rules k h)
+pub ends_at : (t : Task) (k : ℕ) → k < length t.arcs.now → Ends t.nodes (arc_at t.arcs.now k)
+ends_at t k h = ends t.nodes (arc_at t.arcs.now k) (t.rules k h)
 
-pub end_in : (t : Task) (arcs : List Arc) → Sized t arcs → (k v : ℕ) → k < length arcs → end_at arcs k v < t.nodes
-end_in t arcs z k v h = far_in t.nodes (arc_at arcs k) v (ends_at t arcs z k h)
+pub end_in : (t : Task) (k v : ℕ) → k < length t.arcs.now → end_at t.arcs.now k v < t.nodes
+end_in t k v h = far_in t.nodes (arc_at t.arcs.now k) v (ends_at t k h)
 
 -- the amount m leaves the node v by an arc
 module _ (L : ℕ) (a : Arc) (f v m : ℕ) (fits : m ≤ residual_of L a f v) where
@@ -66,19 +67,22 @@ module _ (L : ℕ) (a : Arc) (f v m : ℕ) (fits : m ≤ residual_of L a f v) wh
       ]
 
 -- what waits at a node is at most what is wanted
-waits_le : (t : Task) (arcs : List Arc) (x e : List ℕ) → Load t arcs x e → (v : ℕ) → v < t.nodes → get_or e v 0 ≤ wanted_of t
-waits_le t arcs x e o v h = omega (arith, term_le (λ v. get_or e v 0 * 1) v t.nodes h, o.whole)
+waits_le : (t : Task) (x e : List ℕ) → Load t x e → (v : ℕ) → v < t.nodes → get_or e v 0 ≤ wanted_of t
+waits_le t x e o v h = omega (arith, term_le (λ v. get_or e v 0 * 1) v t.nodes h, o.whole)
 
 -- so is what a node gets
-pub gets_le : (t : Task) (arcs : List Arc) (x e : List ℕ) → Sized t arcs → Load t arcs x e → (a b m : ℕ) → a < t.nodes → b < t.nodes → m ≤ get_or e a 0 → get_or (set e a (get_or e a 0 - m)) b 0 + m ≤ wanted_of t
-gets_le t arcs x e z o a b m a_in b-in le =
-    let l : a < length e = omega (arith, z.counts.1, o.nodes_held) in
+pub gets_le : (t : Task) (x e : List ℕ) → Load t x e → (a b m : ℕ) → a < t.nodes → b < t.nodes → m ≤ get_or e a 0 → get_or (set e a (get_or e a 0 - m)) b 0 + m ≤ wanted_of t
+gets_le t x e o a b m a_in b-in le =
+    let l : a < length e = omega (arith, t.counts.1, o.nodes_held) in
     omega (arith, weigh_set (λ _. 1) e t.nodes a (get_or e a 0 - m) a_in l, term_le (λ v. get_or (set e a (get_or e a 0 - m)) v 0 * 1) b t.nodes b-in, o.whole)
 
-module _ (arcs : List Arc) (p : Preflow) (v k m : ℕ) (i : Holds arcs p) (v-in : v < p.task.nodes) (w : CanPush arcs p v k)
-    (some : 0 < m) (fits : m ≤ residual (limit_of p.task) arcs p.flow k v) (le : m ≤ get_or p.excess v 0) where
+module _ (p : Preflow) (v k m : ℕ) (i : Holds p) (v-in : v < p.task.nodes) (w : CanPush p v k)
+    (some : 0 < m) (fits : m ≤ residual (limit_of p.task) p.task.arcs.now p.flow k v) (le : m ≤ get_or p.excess v 0) where
   abbrev t : Task
   t = p.task
+
+  abbrev arcs : List Arc
+  arcs = t.arcs.now
 
   abbrev L : ℕ
   L = limit_of t
@@ -99,18 +103,18 @@ module _ (arcs : List Arc) (p : Preflow) (v k m : ℕ) (i : Holds arcs p) (v-in 
   y = carried_after (arc_at arcs k) (get_or x k 0) v m
 
   to_in : to < t.nodes
-  to_in = end_in t arcs i.sized k v w.inside
+  to_in = end_in t k v w.inside
 
   in_flow : k < length x
-  in_flow = omega (arith, w.inside, i.sized.counts.2, i.load.arcs_held)
+  in_flow = omega (arith, w.inside, t.counts.2, i.load.arcs_held)
 
   from_in : v < length e
-  from_in = omega (arith, v-in, i.sized.counts.1, i.load.nodes_held)
+  from_in = omega (arith, v-in, t.counts.1, i.load.nodes_held)
 
   far_held : to < length e
-  far_held = omega (arith, to_in, i.sized.counts.1, i.load.nodes_held)
+  far_held = omega (arith, to_in, t.counts.1, i.load.nodes_held)
 
-  load_pushed : Load t arcs (set x k y) (moved m v to e)
+  load_pushed : Load t (set x k y) (moved m v to e)
   load_pushed =
       record {
         arcs_held = length-set x k y ∙ i.load.arcs_held;
@@ -128,27 +132,27 @@ module _ (arcs : List Arc) (p : Preflow) (v k m : ℕ) (i : Holds arcs p) (v-in 
         whole = omega (arith, weigh_moved e m v to le from_in far_held (λ _. 1) t.nodes v-in to_in, i.load.whole);
       }
 
-  steep_pushed : Steep t arcs (set x k y) d
+  steep_pushed : Steep t (set x k y) d
   steep_pushed j u h more =
       let l = in_flow in
       elim (cases_eq j k) [
         | inl q ↦
             let new : 0 < residual_of L (arc_at arcs k) y u = rw (q, get_or-set_same) at more in
-            rw q (elim (after_residual L (arc_at arcs k) (get_or x k 0) v m fits (ends_at t arcs i.sized k w.inside).apart u new) [
+            rw q (elim (after_residual L (arc_at arcs k) (get_or x k 0) v m fits (ends_at t k w.inside).apart u new) [
               | inl s ↦ i.labels.steep k u w.inside s
               | inr s ↦ omega (arith, ap (λ n. get_or d n 0) s.0, ap (λ n. get_or d n 0) s.1, w.down)
             ])
         | inr ne ↦ i.labels.steep j u h (rw get_or-set_other at more)
       ]
 
-  less_effort : effort (sent arcs p k v m) < effort p
+  less_effort : effort (sent p k v m) < effort p
   less_effort = omega (arith, weigh_moved e m v to le from_in far_held (λ u. get_or d u 0) t.nodes v-in to_in, mul-le-mul_left m w.down)
 
-  pub push_steps : Stepped arcs p (sent arcs p k v m)
+  pub push_steps : Stepped p (sent p k v m)
   push_steps =
       record {
         same = refl;
-        holds = record { sized = i.sized; load = load_pushed; labels = record { held = i.labels.held; low = i.labels.low; sink = i.labels.sink; steep = steep_pushed } };
+        holds = record { load = load_pushed; labels = record { held = i.labels.held; low = i.labels.low; sink = i.labels.sink; steep = steep_pushed } };
         less = less_effort;
       }
 
@@ -165,14 +169,14 @@ module _ (d : List ℕ) (v h : ℕ) (l : v < length d) (lt : get_or d v 0 < h) w
 pub ceiling_le : (n v : ℕ) → ceiling n v ≤ 2 * n
 ceiling_le n v = grind (arith, nat_tests)
 
-pub raise_steps : (arcs : List Arc) (p : Preflow) (v h : ℕ) → Holds arcs p → v < p.task.nodes → v ≢ 1 → CanRelabel arcs p v h (length arcs) → Stepped arcs p (raised p v h)
-raise_steps arcs p v h i v-in no_sink w =
+pub raise_steps : (p : Preflow) (v h : ℕ) → Holds p → v < p.task.nodes → v ≢ 1 → CanRelabel p v h (length p.task.arcs.now) → Stepped p (raised p v h)
+raise_steps p v h i v-in no_sink w =
     let t = p.task in
     let e = p.excess in
     let d = p.heights in
     let n = t.nodes in
     let top : ℕ = 2 * n in
-    let l : v < length d = omega (arith, i.sized.counts.1, i.labels.held) in
+    let l : v < length d = omega (arith, t.counts.1, i.labels.held) in
     let ne : 1 ≢ v = λ q. no_sink (sym q) in
     let step : ℕ = h - get_or d v 0 in
     let up : get_or d v 0 + step ≡ h = omega (arith, w.higher) in
@@ -180,13 +184,12 @@ raise_steps arcs p v h i v-in no_sink w =
     record {
       same = refl;
       holds = record {
-        sized = i.sized;
         load = i.load;
         labels = record {
           held = length-set d v h ∙ i.labels.held;
           low = λ u. elim (cases_eq u v) [ inl q ↦ rw (q, get_or-set_same) w.low | inr ne ↦ rw get_or-set_other (i.labels.low u) ];
           sink = rw get_or-set_other i.labels.sink;
-          steep = λ k u m more. set_steep d v h l w.higher u (end_at arcs k u) (i.labels.steep k u m more) (λ q. let here : 0 < residual (limit_of t) arcs p.flow k v = rw q at more in rw q (w.steep k m here));
+          steep = λ k u m more. set_steep d v h l w.higher u (end_at t.arcs.now k u) (i.labels.steep k u m more) (λ q. let here : 0 < residual (limit_of t) t.arcs.now p.flow k v = rw q at more in rw q (w.steep k m here));
         };
       };
       less = omega (
@@ -197,7 +200,7 @@ raise_steps arcs p v h i v-in no_sink w =
         ap (λ j. get_or e v 0 * j) up,
         mul-add (wanted_of t + 1) (top - h) step,
         ap (λ j. (wanted_of t + 1) * j) gone,
-        mul-le-mul_right step (waits_le t arcs p.flow e i.load v v-in),
+        mul-le-mul_right step (waits_le t p.flow e i.load v v-in),
         w.higher,
       );
     }

@@ -1,3 +1,4 @@
 pub mod Preflows
 pub mod Moves
 pub mod Lines
+pub mod Props

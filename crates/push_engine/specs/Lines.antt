@@ -1,6 +1,5 @@
 -- The waiting line of a preflow, as the list w of the nodes that wait in it.
 use Rattle.std.specs.Prelude.{◌≡◌, ℕ, ◌+◌, ◌≤◌, true, not, ◌&&◌, List, [], ◌∷◌, length, Some, None, Option, ◌==◌}
-use Rattle.flows.specs.declared.Arc.{Arc}
 use Rattle.flows.specs.Sums.{only}
 use Rattle.push_engine.specs.declared.preflow.Preflow.{Preflow}
 use Rattle.push_engine.specs.Preflows.{Holds, effort, pending}
@@ -20,15 +19,15 @@ abbrev pub QueuedBut : Preflow → ℕ → List ℕ → Type 0
 QueuedBut p v w = (u : ℕ) → tally u w ≡ only (pending p u && not (u == v)) 1
 
 -- between two moves at v, which began with the preflow p
-pub record Working (arcs : List Arc) (p : Preflow) (v : ℕ) (q : Preflow) (w : List ℕ) : Type 0 where
+pub record Working (p : Preflow) (v : ℕ) (q : Preflow) (w : List ℕ) : Type 0 where
   pub same : q.task ≡ p.task
-  pub holds : Holds arcs q
+  pub holds : Holds q
   pub level : q.heights ≡ p.heights
   pub waits : pending q v ≡ true
   pub queued : QueuedBut q v w
   pub less : effort q ≤ effort p
 
 -- nothing waits at v any more, or v can be raised to the height h
-abbrev pub Drained : List Arc → Preflow → ℕ → Preflow → List ℕ → Option ℕ → Type 0
-Drained arcs p v q w None = Stepped arcs p q × Queued q w
-Drained arcs p v q w (Some h) = Working arcs p v q w × CanRelabel arcs q v h (length arcs)
+abbrev pub Drained : Preflow → ℕ → Preflow → List ℕ → Option ℕ → Type 0
+Drained p v q w None = Stepped p q × Queued q w
+Drained p v q w (Some h) = Working p v q w × CanRelabel q v h (length q.task.arcs.now)

@@ -1,10 +1,9 @@
 -- Preflows with heights: x is what each arc carries, e the excess, what waits at each node, and d how
 -- high each node stands.
-use Rattle.std.specs.Prelude.{◌≡◌, ℕ, ◌+◌, ◌-◌, ◌*◌, ◌<◌, ◌≤◌, min, Bool, cond, not, ◌&&◌, List, length, replicate, ◌==◌, nat_lt, slice_index, slice_index_or, slice_set}
+use Rattle.std.specs.Prelude.{◌≡◌, ℕ, ◌+◌, ◌-◌, ◌*◌, ◌<◌, ◌≤◌, min, Bool, cond, not, ◌&&◌, List, length, replicate, ◌==◌, nat_lt, slice_index, slice_set}
 use Rattle.flows.specs.declared.Arc.{Arc}
 use Rattle.flows.specs.Sums.{sum_to, only}
 use Rattle.flows.specs.Flows.{EachArc, arc_at, capacity_under, inflow, outflow}
-use Rattle.network.specs.Rules.{CountsOk, ArcsOk}
 use Rattle.network.specs.Runs.{ZeroAfter}
 use Rattle.push_engine.specs.declared.preflow.Task.{Task}
 use Rattle.push_engine.specs.declared.preflow.Preflow.{Preflow}
@@ -29,36 +28,30 @@ weigh w e n = sum_to n (λ v. slice_index e v * w v)
 abbrev pub supply : ℕ → ℕ → ℕ
 supply W v = only (v == 0) W
 
--- the arcs are those of a network of the task's nodes
-pub record Sized (t : Task) (arcs : List Arc) : Type 0 where
-  pub counts : CountsOk t.nodes (length arcs)
-  pub rules : ArcsOk t.nodes (length arcs) arcs
-
 -- no arc carries more than its capacity, and what comes into a node leaves it or waits there
-pub record Load (t : Task) (arcs : List Arc) (x e : List ℕ) : Type 0 where
+pub record Load (t : Task) (x e : List ℕ) : Type 0 where
   pub arcs_held : length x ≡ 256
   pub nodes_held : length e ≡ 64
-  pub fits : EachArc (λ a f. f ≤ capacity_under (limit_of t) a) arcs x
-  pub rest : ZeroAfter arcs x
-  pub balanced : (v : ℕ) → inflow v arcs x + supply (wanted_of t) v ≡ outflow v arcs x + slice_index e v
+  pub fits : EachArc (λ a f. f ≤ capacity_under (limit_of t) a) t.arcs.now x
+  pub rest : ZeroAfter t.arcs.now x
+  pub balanced : (v : ℕ) → inflow v t.arcs.now x + supply (wanted_of t) v ≡ outflow v t.arcs.now x + slice_index e v
   pub whole : weigh (λ _. 1) e t.nodes ≡ wanted_of t
 
 -- no residual arc leads down by more than one
-abbrev pub Steep : Task → List Arc → List ℕ → List ℕ → Type 0
-Steep t arcs x d = (k u : ℕ) → k < length arcs → 0 < residual (limit_of t) arcs x k u → slice_index d u ≤ slice_index d (end_at arcs k u) + 1
+abbrev pub Steep : Task → List ℕ → List ℕ → Type 0
+Steep t x d = (k u : ℕ) → k < length t.arcs.now → 0 < residual (limit_of t) t.arcs.now x k u → slice_index d u ≤ slice_index d (end_at t.arcs.now k u) + 1
 
 -- the heights: no node stands above its ceiling, and node 1 stands at 0
-pub record Labels (t : Task) (arcs : List Arc) (x d : List ℕ) : Type 0 where
+pub record Labels (t : Task) (x d : List ℕ) : Type 0 where
   pub held : length d ≡ 64
   pub low : (v : ℕ) → slice_index d v ≤ ceiling t.nodes v
-  pub sink : slice_index_or d 1 0 ≡ 0
-  pub steep : Steep t arcs x d
+  pub sink : slice_index d 1 ≡ 0
+  pub steep : Steep t x d
 
 -- what holds of a preflow after every move
-pub record Holds (arcs : List Arc) (p : Preflow) : Type 0 where
-  pub sized : Sized p.task arcs
-  pub load : Load p.task arcs p.flow p.excess
-  pub labels : Labels p.task arcs p.flow p.heights
+pub record Holds (p : Preflow) : Type 0 where
+  pub load : Load p.task p.flow p.excess
+  pub labels : Labels p.task p.flow p.heights
 
 -- what falls with each move: the heights at which the excess waits, and those by which the nodes can
 -- still rise, weighed by more than all the excess
@@ -76,19 +69,19 @@ abbrev pub carried_after : Arc → ℕ → ℕ → ℕ → ℕ
 carried_after a f v m = cond (a.tail == v) (f + m) (f - m)
 
 -- the most that can be pushed from the node v by the arc k: all that the arc takes, or all that waits
-abbrev pub pushable : List Arc → Preflow → ℕ → ℕ → ℕ
-pushable arcs p k v = min (residual (limit_of p.task) arcs p.flow k v) (slice_index p.excess v)
+abbrev pub pushable : Preflow → ℕ → ℕ → ℕ
+pushable p k v = min (residual (limit_of p.task) p.task.arcs.now p.flow k v) (slice_index p.excess v)
 
 -- the amount m goes from the node a to the node b
 abbrev pub moved : ℕ → ℕ → ℕ → List ℕ → List ℕ
 moved m a b e = slice_set (slice_set e a (slice_index e a - m)) b (slice_index (slice_set e a (slice_index e a - m)) b + m)
 
 -- the preflow after the amount m left the node v by the arc k
-abbrev pub sent : List Arc → Preflow → ℕ → ℕ → ℕ → Preflow
-sent arcs p k v m = record {
+abbrev pub sent : Preflow → ℕ → ℕ → ℕ → Preflow
+sent p k v m = record {
   task = p.task;
-  flow = slice_set p.flow k (carried_after (arc_at arcs k) (slice_index p.flow k) v m);
-  excess = moved m v (end_at arcs k v) p.excess;
+  flow = slice_set p.flow k (carried_after (arc_at p.task.arcs.now k) (slice_index p.flow k) v m);
+  excess = moved m v (end_at p.task.arcs.now k v) p.excess;
   heights = p.heights;
 }
 

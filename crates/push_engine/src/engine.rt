@@ -16,12 +16,13 @@ fn solve(net: &Network, limit: Amount, wanted: Amount, flow: &mut [u32; 256]) ->
     ensures least { elim result [ Reached ↦ Unit {0} | Short side ↦ Innermost net.now.nodes limit.value (arcs_of net.now) flow.new (inside side.bits) ] }
     ensures rest { ZeroAfter (arcs_of net.now) flow.new }
 {
-    let mut preflow = Preflow::new(Task {
+    let task = Task {
         nodes: net.nodes(),
+        arcs: net.arcs(),
         limit,
         wanted,
-    });
-    preflow.settle(net.arcs());
+    };
+    let preflow = Preflow::new(task).settle();
     *flow = preflow.flow;
     if preflow.excess[0] == 0 {
         return Answer::Reached;

@@ -1,8 +1,9 @@
 // A flow engine by preflows and node heights.
 #![tactic(auto)]
 
-mod discharge;
 mod engine;
 mod preflow;
+mod queue;
+mod work;
 
 pub use engine::PushEngine;

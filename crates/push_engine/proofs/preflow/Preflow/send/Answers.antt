@@ -5,7 +5,6 @@ use Rattle.push_engine.proofs.preflow.Preflow.send.Goals as goal
 pub overflow_add-self : goal.overflow_add-self
 overflow_add-self c =
     let p = c.args.self.now in
-    let i = c.requires.holds in
-    let far = end_in p.task c.args.arcs.now i.sized c.args.k c.args.node c.requires.inside in
-    let gets = gets_le p.task c.args.arcs.now p.flow p.excess i.sized i.load c.args.node c.far_end.result c.args.amount c.requires.node (rw c.far_end.ensures far) c.requires.waits in
+    let far = end_in p.task c.args.k c.args.node c.requires.inside in
+    let gets = gets_le p.task p.flow p.excess c.requires.holds.load c.args.node c.far_end.result c.args.amount c.requires.node (rw c.far_end.ensures far) c.requires.waits in
     omega (arith, p.task.wanted.small)

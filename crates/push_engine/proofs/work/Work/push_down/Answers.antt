@@ -1,0 +1,34 @@
+use Rattle.std.proofs.Common.{◌∙◌, ap, arith}
+use Rattle.push_engine.specs.declared.preflow.Task.{Task}
+use Rattle.push_engine.proofs.Rounds.{went, emptied, goes_on, raise_past, raise_full, raise_beside, can_push_down}
+use Rattle.push_engine.proofs.work.Work.push_down.Goals as goal
+use Rattle.push_engine.proofs.work.Work.push_down.Goals.{then-residual_from-gt0+then-end-height, then-residual_from-gt0+else-end-height+else-self-node-eq0, else-residual_from-gt0}
+
+pub returns-then-self-node-eq0 : goal.returns-then-self-node-eq0
+returns-then-self-node-eq0 c =
+    let i = c.loop-k.invariant.working in
+    let can = can_push_down _ _ _ _ i _ c.loop-k.invariant.arcs c.loop-k.k c.far_end.result c.far_end.ensures (omega arith) (omega arith) c.if-end-height.false in
+    (went _ _ _ _ _ _ _ i can c.push.ensures.pushed c.push.ensures.queued, emptied _ _ _ _ _ _ _ i can c.push.ensures.pushed c.push.ensures.queued c.if-self-node-eq0.true)
+
+pub loop-k-preserved : goal.loop-k-preserved
+loop-k-preserved c =
+    let i = c.loop-k.invariant.working in
+    let same = c.loop-k.invariant.arcs in
+    let next = c.loop-k.invariant.next in
+    elim c.if-residual_from-gt0.branch [
+      | then-residual_from-gt0+then-end-height w ↦ rw (w.self-is, w.queue-is) (record {
+        arcs = same;
+        working = i;
+        next = raise_beside _ _ _ _ i _ same c.loop-k.k w.far_end.result w.far_end.ensures _ _ next w.if-end-height.true (w.next-is ∙ w.min-next.ensures);
+      })
+      | then-residual_from-gt0+else-end-height+else-self-node-eq0 w ↦
+          let can = can_push_down _ _ _ _ i _ same c.loop-k.k w.far_end.result w.far_end.ensures (omega arith) (omega arith) w.if-end-height.false in
+          let e = w.push.ensures.pushed in
+          let b = w.push.ensures.queued in
+          rw (w.self-is, w.queue-is, w.next-is) (record {
+            arcs = rw e same;
+            working = goes_on _ _ _ _ _ _ _ i can e b (omega arith);
+            next = raise_past _ _ _ _ _ _ _ i can e b _ next (omega arith);
+          })
+      | else-residual_from-gt0 w ↦ rw (w.self-is, w.queue-is, w.next-is) (record { arcs = same; working = i; next = raise_full _ _ _ _ i _ same c.loop-k.k _ next (omega arith) })
+    ]

@@ -1,0 +1,13 @@
+use Rattle.std.proofs.Common.{◌≡◌}
+use Rattle.line.specs.Waiting.{waiting}
+use Rattle.push_engine.specs.Moves.{CanRelabel}
+use Rattle.push_engine.specs.Lines.{Working}
+use Rattle.push_engine.proofs.work.Work.push_down.Given as goal
+
+abbrev pub invariant-loop-k : goal.invariant-loop-k
+invariant-loop-k l =
+    record {
+      arcs : l.arcs ≡ l.self.preflow.task.arcs.now;
+      working : Working l.initial.self.preflow l.node l.self.preflow (waiting l.queue.line);
+      next : CanRelabel l.self.preflow l.node l.next l.k;
+    }

@@ -1,0 +1,114 @@
+// What is done at one node after another, until nothing is left to be done.
+ghost use Rattle.std.specs.Prelude.{◌≡◌, ℕ, true, length};
+ghost use Rattle.line.specs.Waiting.{waiting};
+ghost use Rattle.push_engine.specs.Preflows.{Holds, pending, pushable, sent, raised};
+ghost use Rattle.push_engine.specs.Props.{Holds-prop};
+ghost use Rattle.push_engine.specs.Moves.{CanPush, CanRelabel, Stepped, Settled};
+ghost use Rattle.push_engine.specs.Lines.{Queued, QueuedBut, Drained};
+
+use crate::preflow::Preflow;
+use crate::queue::Queue;
+use path_engine::{far_end, residual_from};
+
+/// A preflow between two moves.
+#[derive(Drop)]
+struct Work<'a> {
+    preflow: Preflow<'a>,
+    ghost holds: { Holds preflow } by { Holds-prop preflow },
+}
+
+impl Work<'_> {
+    // Pushes as much as can go from a node by an arc. The other end joins the queue, if only now
+    // something is to be done there.
+    fn push(&mut self, queue: &mut Queue<'_>, node: u8, k: usize)
+        requires waits { pending self.old.preflow node ≡ true }
+        requires can { CanPush self.old.preflow node k }
+        requires queued { QueuedBut self.old.preflow node (waiting queue.old.line) }
+        ensures pushed { self.new.preflow ≡ sent self.old.preflow k node (pushable self.old.preflow k node) }
+        ensures queued { QueuedBut self.new.preflow node (waiting queue.new.line) }
+    {
+        let preflow = &mut self.preflow;
+        let arc = preflow.arcs()[k];
+        let to = far_end(arc, node);
+        let waited = preflow.is_pending(to);
+        let most = residual_from(arc, preflow.flow[k], preflow.task.limit, node);
+        preflow.send(k, node, most.min(preflow.excess[node as usize]));
+        if !waited && preflow.is_pending(to) {
+            queue.join(to);
+        }
+    }
+
+    // Raises a node that has left the queue. It joins the queue again, if something is still to be
+    // done there.
+    fn relabel(&mut self, queue: &mut Queue<'_>, node: u8, height: u8)
+        requires waits { pending self.old.preflow node ≡ true }
+        requires can { CanRelabel self.old.preflow node height (length self.old.preflow.task.arcs.now) }
+        requires queued { QueuedBut self.old.preflow node (waiting queue.old.line) }
+        ensures raised { self.new.preflow ≡ raised self.old.preflow node height }
+        ensures queued { Queued self.new.preflow (waiting queue.new.line) }
+    {
+        self.preflow.heights[node as usize] = height;
+        if self.preflow.is_pending(node) {
+            queue.join(node);
+        }
+    }
+
+    // Pushes from a node to lower ones, until nothing waits there, or says how high the node is to
+    // be raised: one above the lowest node to which more could go, and at most to its ceiling.
+    fn push_down(&mut self, queue: &mut Queue<'_>, node: u8) -> Option<u8>
+        requires waits { pending self.old.preflow node ≡ true }
+        requires queued { QueuedBut self.old.preflow node (waiting queue.old.line) }
+        ensures { Drained self.old.preflow node self.new.preflow (waiting queue.new.line) result }
+    {
+        let height = self.preflow.heights[node as usize];
+        let mut next = self.preflow.ceiling(node);
+        let arcs = self.preflow.arcs();
+        for (k, arc) in arcs.iter().enumerate() {
+            let preflow = &self.preflow;
+            if residual_from(*arc, preflow.flow[k], preflow.task.limit, node) > 0 {
+                let end = preflow.heights[far_end(*arc, node) as usize];
+                if end >= height {
+                    next = next.min(end + 1);
+                } else {
+                    self.push(queue, node, k);
+                    if self.preflow.excess[node as usize] == 0 {
+                        return None;
+                    }
+                }
+            }
+        }
+        Some(next)
+    }
+
+    // Works at a node that has left the queue, until nothing waits there or the node is raised.
+    fn discharge(&mut self, queue: &mut Queue<'_>, node: u8)
+        requires waits { pending self.old.preflow node ≡ true }
+        requires queued { QueuedBut self.old.preflow node (waiting queue.old.line) }
+        ensures stepped { Stepped self.old.preflow self.new.preflow }
+        ensures queued { Queued self.new.preflow (waiting queue.new.line) }
+    {
+        if let Some(height) = self.push_down(queue, node) {
+            self.relabel(queue, node, height);
+        }
+    }
+}
+
+impl<'a> Preflow<'a> {
+    /// Pushes what waits at node 0 as far as it goes, and what goes no further back.
+    pub(crate) fn settle(self) -> Preflow<'a>
+        requires holds { Holds self }
+        requires start { (u : ℕ) → pending self u ≡ true → u ≡ 0 }
+        ensures { Settled self.entry.task result }
+    {
+        let mut places = [0; 64];
+        let mut queue = Queue::new(&mut places);
+        if self.is_pending(0) {
+            queue.join(0);
+        }
+        let mut work = Work { preflow: self };
+        while let Some(node) = queue.next() {
+            work.discharge(&mut queue, node);
+        }
+        work.preflow
+    }
+}
