@@ -64,6 +64,12 @@ abbrev pub outcome_of : Found → Outcome
 outcome_of (FoundPlanned cost runs) = Planned cost runs
 outcome_of (FoundShort limit cut runs) = Short runs cut
 
+-- what a plan in force costs, if there is one
+abbrev pub cost_in : Outcome → Option ℕ
+cost_in Unplanned = None
+cost_in (Planned cost runs) = Some cost
+cost_in (Short runs cut) = None
+
 -- the runs of a planning
 abbrev pub runs_of : Outcome → ℕ
 runs_of Unplanned = 0

@@ -1,5 +1,5 @@
 // Single runs of an engine.
-use super::samples::{amount, counted, fixed, network_of};
+use super::samples::{amount, network_of};
 use engines::AnyEngine;
 use network::{Answer, Arc, Engine};
 use path_engine::PathEngine;
@@ -33,7 +33,7 @@ fn run_once<E: Engine>(
 fn edges<E: Engine>(rt: &impl Abort, engine: &mut E) -> Result<(), Fail> {
     assert_eq!(rt; run_once(rt, engine, &[], 3, 0)?, (0, 0), "nothing wanted");
     assert_eq!(rt; run_once(rt, engine, &[], 3, 1)?, (0, 1), "no arcs");
-    let parallel = [fixed(0, 1, 2), fixed(0, 1, 3), counted(0, 1)];
+    let parallel = [Arc::fixed(0, 1, 2), Arc::fixed(0, 1, 3), Arc::counted(0, 1)];
     assert_eq!(rt;
         run_once(rt, engine, &parallel, 4, 9)?,
         (9, 0),
@@ -45,29 +45,29 @@ fn edges<E: Engine>(rt: &impl Abort, engine: &mut E) -> Result<(), Fail> {
         "more than any flow"
     );
     assert_eq!(rt; run_once(rt, engine, &parallel, 0, 5)?, (5, 0), "limit 0");
-    let empty = [fixed(0, 2, 0), fixed(2, 1, 5)];
+    let empty = [Arc::fixed(0, 2, 0), Arc::fixed(2, 1, 5)];
     assert_eq!(rt; run_once(rt, engine, &empty, 1, 1)?, (0, 1), "capacity 0");
     Ok(())
 }
 
 fn cycles<E: Engine>(rt: &impl Abort, engine: &mut E) -> Result<(), Fail> {
     let ring = [
-        fixed(0, 2, 8),
-        fixed(2, 3, 8),
-        fixed(3, 4, 8),
-        fixed(4, 2, 8),
-        counted(3, 1),
-        counted(4, 1),
+        Arc::fixed(0, 2, 8),
+        Arc::fixed(2, 3, 8),
+        Arc::fixed(3, 4, 8),
+        Arc::fixed(4, 2, 8),
+        Arc::counted(3, 1),
+        Arc::counted(4, 1),
     ];
     assert_eq!(rt; run_once(rt, engine, &ring, 4, 8)?, (8, 0));
     assert_eq!(rt; run_once(rt, engine, &ring, 3, 8)?, (6, 0b11101));
     let back = [
-        fixed(0, 2, 1),
-        fixed(0, 3, 1),
-        fixed(2, 3, 1),
-        fixed(2, 4, 1),
-        fixed(3, 1, 1),
-        fixed(4, 1, 1),
+        Arc::fixed(0, 2, 1),
+        Arc::fixed(0, 3, 1),
+        Arc::fixed(2, 3, 1),
+        Arc::fixed(2, 4, 1),
+        Arc::fixed(3, 1, 1),
+        Arc::fixed(4, 1, 1),
     ];
     assert_eq!(rt;
         run_once(rt, engine, &back, 0, 2)?,

@@ -1,5 +1,5 @@
 // Searches for the least limit.
-use super::samples::{amount, counted, fixed, network_of};
+use super::samples::{amount, network_of};
 use limit_search::{Found, Step, search};
 use network::{Arc, Cut, Engine, NetworkFault, Side};
 use path_engine::PathEngine;
@@ -29,12 +29,12 @@ fn search_once<E: Engine>(
 /// Three nozzles that are fed 20, 12 and 1.
 fn three_nozzles() -> [Arc; 6] {
     [
-        fixed(0, 2, 20),
-        fixed(0, 3, 12),
-        fixed(0, 4, 1),
-        counted(2, 1),
-        counted(3, 1),
-        counted(4, 1),
+        Arc::fixed(0, 2, 20),
+        Arc::fixed(0, 3, 12),
+        Arc::fixed(0, 4, 1),
+        Arc::counted(2, 1),
+        Arc::counted(3, 1),
+        Arc::counted(4, 1),
     ]
 }
 

@@ -4,7 +4,7 @@
 
 use anyhow::anyhow;
 use engines::AnyEngine;
-use network::{Amount, Answer, Arc, Capacity, Engine, Network};
+use network::{Amount, Answer, Arc, Engine, Network};
 use std::alloc::{AllocError, Global};
 use std::env;
 
@@ -18,30 +18,21 @@ const WANTED: u32 = 1_000_000;
 /// The least limit under which the board takes them, and the one below it.
 const LIMITS: [u32; 2] = [125_000, 124_999];
 
-fn add(arcs: &mut Vec<Arc>, tail: u8, head: u8, capacity: Capacity) -> Result<(), AllocError> {
-    arcs.push(Arc {
-        tail,
-        head,
-        capacity,
-    })?;
-    Ok(())
-}
-
 /// The arcs of a board of 24 types and 8 nozzles, each of which may take every type.
 fn full_board(heap: Global) -> Result<Vec<Arc>, AllocError> {
     let mut arcs = Vec::new(heap);
     for t in 0..TYPES {
         let quantity = 41_000 + 58 * u32::from(t);
-        add(&mut arcs, 0, t + 2, Capacity::Fixed(quantity))?;
+        arcs.push(Arc::fixed(0, t + 2, quantity))?;
     }
     for t in 0..TYPES {
         for j in 0..NOZZLES {
             let limit = 5_000 + 640 * ((u32::from(t) * 7 + u32::from(j) * 3) % 11);
-            add(&mut arcs, t + 2, TYPES + 2 + j, Capacity::Fixed(limit))?;
+            arcs.push(Arc::fixed(t + 2, TYPES + 2 + j, limit))?;
         }
     }
     for j in 0..NOZZLES {
-        add(&mut arcs, TYPES + 2 + j, 1, Capacity::Counted)?;
+        arcs.push(Arc::counted(TYPES + 2 + j, 1))?;
     }
     Ok(arcs)
 }
@@ -64,10 +55,6 @@ fn repeat<E: Engine>(
     reached
 }
 
-fn amount(value: u32) -> anyhow::Result<Amount> {
-    Amount::try_from(value).map_err(|_| anyhow!("the amount is too large"))
-}
-
 fn run(rt: &HostRuntime) -> anyhow::Result<()> {
     let mut args = env::args(rt)?;
     let _program = args.next();
@@ -78,10 +65,9 @@ fn run(rt: &HostRuntime) -> anyhow::Result<()> {
     let mut engine = name.parse::<AnyEngine>()?;
     let arcs = full_board(rt.alloc())?;
     let mut net = Network::empty();
-    net.fill(TYPES + NOZZLES + 2, arcs.as_slice())
-        .map_err(|_| anyhow!("the board is no network"))?;
-    let limits = LIMITS.try_map(amount)?;
-    let wanted = amount(WANTED)?;
+    net.fill(TYPES + NOZZLES + 2, arcs.as_slice())?;
+    let limits = LIMITS.try_map(Amount::try_from)?;
+    let wanted = Amount::try_from(WANTED)?;
     let reached = repeat(&mut engine, &net, limits, wanted, runs);
     println!(rt; "{name} runs {runs} reached {reached}")?;
     Ok(())

@@ -30,7 +30,7 @@ impl<'a> Case<'a> {
         wanted: u32,
         sizes: u64,
     ) -> bool {
-        let (Ok(under), Ok(size)) = (Amount::try_from(limit), Amount::new(wanted)) else {
+        let (Ok(under), Ok(size)) = (Amount::try_from(limit), Amount::try_from(wanted)) else {
             return false;
         };
         let before = engine.count();

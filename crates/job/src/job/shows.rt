@@ -49,11 +49,7 @@ impl Job {
     fn runs(&self) -> usize
         ensures { (result ≡ runs_of (book_of self.now).outcome) × (result ≤ 9) }
     {
-        match self.outcome {
-            Outcome::None => 0,
-            Outcome::Planned { runs, .. } => runs,
-            Outcome::Short { runs, .. } => runs,
-        }
+        self.outcome.runs()
     }
 
     /// A step of the trail of the last planning.
