@@ -1,10 +1,9 @@
 -- What the rules of a network say of its residual arcs.
 use Rattle.std.proofs.Common.{◌≡◌, ℕ, ◌-◌, ◌<◌, ◌≤◌, true, ◌≢◌, ◌⊎◌, length, refl, inl, inr, arith}
-use Rattle.std.proofs.lemmas.List.{get_or-take, length-take}
 use Rattle.std.proofs.lemmas.Bool.{cases_eq}
 use Rattle.std.proofs.lemmas.Bool.Decides.{nat_tests}
 use Rattle.flows.specs.declared.Arc.{Arc}
-use Rattle.flows.specs.Flows.{no_arc, arc_at, fixed_of, capacity_under}
+use Rattle.flows.specs.Flows.{arc_at, fixed_of, capacity_under}
 use Rattle.network.specs.declared.nets.Network.{Network}
 use Rattle.network.specs.Nets.{arcs_of}
 use Rattle.network.specs.Rules.{arc_ok}
@@ -19,9 +18,7 @@ small_under L a h l = grind arith
 
 module _ (net : Network) (k : ℕ) (h : k < length (arcs_of net)) where
   pub end_in : (u : ℕ) → end_at (arcs_of net) k u < net.nodes
-  end_in u =
-      let m : k < net.count = omega (arith, length-take net.count net.table) in
-      rw (get_or-take net.count net.table k no_arc m) (far_in net.nodes (arc_at net.table k) u (net.rules k m))
+  end_in u = far_in net.nodes (arc_at (arcs_of net) k) u (net.rules k h)
 
   pub end_few : (u : ℕ) → end_at (arcs_of net) k u < 64
   end_few u = omega (arith, end_in u, net.counts.1)

@@ -8,7 +8,7 @@ ghost use Rattle.path_engine.specs.Residual.{Innermost};
 
 use crate::search::{Goal, Search};
 use crate::steps::LimitedNet;
-use network::{Amount, Answer, Engine, Network, Side};
+use network::{Amount, Answer, CountingEngine, Method, Network, Side};
 
 /// The nodes that node 0 reaches over residual arcs, where the list says what each arc carries: from
 /// an arc's tail to its head if it carries less than it can under the limit, and back if it carries
@@ -20,65 +20,33 @@ pub fn reach(net: &Network, limit: Amount, flow: &[u32; 256]) -> Side
     Search::run(LimitedNet { net, limit }, flow, 1, Goal::AllNodes).reached
 }
 
-// Sends more along shortest paths until there is enough, or no path. Then the nodes that the last
-// search reached are the side.
-fn solve(net: &Network, limit: Amount, wanted: Amount, flow: &mut [u32; 256]) -> Answer
-    ensures shown { Shown net.now.nodes limit.value wanted.value (arcs_of net.now) flow.new result }
-    ensures least { elim result [ Reached ↦ Unit {0} | Short side ↦ Innermost net.now.nodes limit.value (arcs_of net.now) flow.new (inside side.bits) ] }
-    ensures rest { ZeroAfter (arcs_of net.now) flow.new }
-{
-    let limited = LimitedNet { net, limit };
-    *flow = [0; 256];
-    let mut missing = wanted.value();
-    while missing > 0 {
-        let search = Search::run(limited, flow, missing, Goal::Sink);
-        if !search.found() {
-            return Answer::Short {
-                side: search.reached,
-            };
+/// Finds flows by shortest augmenting paths.
+#[derive(Clone, Copy)]
+pub struct ShortestPaths;
+
+impl Method for ShortestPaths {
+    /// Sends more along shortest paths until there is enough, or no path. Then the nodes that the last
+    /// search reached are the side.
+    fn solve(net: &Network, limit: Amount, wanted: Amount, flow: &mut [u32; 256]) -> Answer
+        ensures shown { Shown net.now.nodes limit.value wanted.value (arcs_of net.now) flow.new result }
+        ensures least { elim result [ Reached ↦ Unit {0} | Short side ↦ Innermost net.now.nodes limit.value (arcs_of net.now) flow.new (inside side.bits) ] }
+        ensures rest { ZeroAfter (arcs_of net.now) flow.new }
+    {
+        let limited = LimitedNet { net, limit };
+        *flow = [0; 256];
+        let mut missing = wanted.value();
+        while missing > 0 {
+            let search = Search::run(limited, flow, missing, Goal::Sink);
+            if !search.found() {
+                return Answer::Short {
+                    side: search.reached,
+                };
+            }
+            missing -= search.augment(limited, flow);
         }
-        missing -= search.augment(limited, flow);
-    }
-    Answer::Reached
-}
-
-/// An engine that sends along shortest paths, and the number of its runs.
-#[derive(Drop)]
-pub struct PathEngine {
-    runs: u32,
-}
-
-impl PathEngine {
-    /// An engine that has made no run.
-    pub fn new() -> PathEngine
-        ensures { result.runs ≡ 0 }
-    {
-        PathEngine { runs: 0 }
-    }
-
-    /// An engine whose count stands at this number.
-    pub fn with_count(runs: u32) -> PathEngine
-        ensures { result.runs ≡ runs }
-    {
-        PathEngine { runs }
+        Answer::Reached
     }
 }
 
-impl Engine for PathEngine {
-    ghost count = { λ s. s.runs };
-
-    fn count(&self) -> u32 {
-        self.runs
-    }
-
-    fn run(
-        &mut self,
-        net: &Network,
-        limit: Amount,
-        wanted: Amount,
-        flow: &mut [u32; 256],
-    ) -> Answer {
-        self.runs = self.runs.wrapping_add(1);
-        solve(net, limit, wanted, flow)
-    }
-}
+/// An engine that sends along shortest paths.
+pub type PathEngine = CountingEngine<ShortestPaths>;

@@ -6,5 +6,5 @@ mod paths;
 mod search;
 mod steps;
 
-pub use engine::{PathEngine, reach};
+pub use engine::{PathEngine, ShortestPaths, reach};
 pub use steps::{far_end, residual_from};

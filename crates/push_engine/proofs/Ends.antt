@@ -81,11 +81,10 @@ started t p is =
 -- nodes and arcs of a network are those of a task
 module _ (net : Network) (n : ℕ) (arcs : List Arc) (nodes : n ≡ net.nodes) (is : arcs ≡ arcs_of net) where
   pub counts_of : CountsOk n (length arcs)
-  counts_of = rw (nodes, is) (net.counts.0, net.counts.1, omega (arith, net.counts.2, length-take net.count net.table))
+  counts_of = rw (nodes, is) net.counts
 
   pub rules_of : ArcsOk n (length arcs) arcs
-  rules_of =
-      rw (nodes, is) (λ k h. let m : k < net.count = omega (arith, length-take net.count net.table) in rw (get_or-take net.count net.table k no_arc m) (net.rules k m))
+  rules_of = rw (nodes, is) net.rules
 
 -- at the end
 at_ceiling : (p : Preflow) (v : ℕ) → pending p v ≡ false → v ≢ 1 → v < p.task.nodes → 0 < get_or p.excess v 0 → ceiling p.task.nodes v ≤ get_or p.heights v 0

@@ -7,68 +7,36 @@ ghost use Rattle.network.specs.declared.engines.Answer.TheVariants.{Reached, Sho
 ghost use Rattle.path_engine.specs.Residual.{Innermost};
 
 use crate::preflow::{Preflow, Task};
-use network::{Amount, Answer, Engine, Network};
+use network::{Amount, Answer, CountingEngine, Method, Network};
 use path_engine::reach;
 
-// Pushes all that is wanted in at node 0, and back what does not come through to node 1.
-fn solve(net: &Network, limit: Amount, wanted: Amount, flow: &mut [u32; 256]) -> Answer
-    ensures shown { Shown net.now.nodes limit.value wanted.value (arcs_of net.now) flow.new result }
-    ensures least { elim result [ Reached ↦ Unit {0} | Short side ↦ Innermost net.now.nodes limit.value (arcs_of net.now) flow.new (inside side.bits) ] }
-    ensures rest { ZeroAfter (arcs_of net.now) flow.new }
-{
-    let task = Task {
-        nodes: net.nodes(),
-        arcs: net.arcs(),
-        limit,
-        wanted,
-    };
-    let preflow = Preflow::new(task).settle();
-    *flow = preflow.flow;
-    if preflow.excess[0] == 0 {
-        return Answer::Reached;
-    }
-    Answer::Short {
-        side: reach(net, limit, flow),
-    }
-}
+/// Finds flows by preflows and node heights.
+#[derive(Clone, Copy)]
+pub struct PreflowPush;
 
-/// An engine that pushes preflows, and the number of its runs.
-#[derive(Drop)]
-pub struct PushEngine {
-    runs: u32,
-}
-
-impl PushEngine {
-    /// An engine that has made no run.
-    pub fn new() -> PushEngine
-        ensures { result.runs ≡ 0 }
+impl Method for PreflowPush {
+    /// Pushes all that is wanted in at node 0, and back what does not come through to node 1.
+    fn solve(net: &Network, limit: Amount, wanted: Amount, flow: &mut [u32; 256]) -> Answer
+        ensures shown { Shown net.now.nodes limit.value wanted.value (arcs_of net.now) flow.new result }
+        ensures least { elim result [ Reached ↦ Unit {0} | Short side ↦ Innermost net.now.nodes limit.value (arcs_of net.now) flow.new (inside side.bits) ] }
+        ensures rest { ZeroAfter (arcs_of net.now) flow.new }
     {
-        PushEngine { runs: 0 }
-    }
-
-    /// An engine whose count stands at this number.
-    pub fn with_count(runs: u32) -> PushEngine
-        ensures { result.runs ≡ runs }
-    {
-        PushEngine { runs }
-    }
-}
-
-impl Engine for PushEngine {
-    ghost count = { λ s. s.runs };
-
-    fn count(&self) -> u32 {
-        self.runs
-    }
-
-    fn run(
-        &mut self,
-        net: &Network,
-        limit: Amount,
-        wanted: Amount,
-        flow: &mut [u32; 256],
-    ) -> Answer {
-        self.runs = self.runs.wrapping_add(1);
-        solve(net, limit, wanted, flow)
+        let task = Task {
+            nodes: net.nodes(),
+            arcs: net.arcs(),
+            limit,
+            wanted,
+        };
+        let preflow = Preflow::new(task).settle();
+        *flow = preflow.flow;
+        if preflow.excess[0] == 0 {
+            return Answer::Reached;
+        }
+        Answer::Short {
+            side: reach(net, limit, flow),
+        }
     }
 }
+
+/// An engine that pushes preflows.
+pub type PushEngine = CountingEngine<PreflowPush>;

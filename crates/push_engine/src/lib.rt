@@ -6,4 +6,4 @@ mod preflow;
 mod queue;
 mod work;
 
-pub use engine::PushEngine;
+pub use engine::{PreflowPush, PushEngine};

@@ -1,6 +1,6 @@
 use Rattle.std.proofs.Common.{arith}
 use Rattle.push_engine.proofs.Ends.{started, rest, reaches, short}
-use Rattle.push_engine.proofs.engine.solve.Goals as goal
+use Rattle.push_engine.proofs.engine.PreflowPushMethod.solve.Goals as goal
 
 pub settle-preflow-requires : goal.settle-preflow-requires
 settle-preflow-requires c =

@@ -1,7 +1,7 @@
 use Rattle.std.proofs.Common.{sym, arith}
 use Rattle.path_engine.proofs.Closed.{falls_short}
 use Rattle.path_engine.proofs.Ends.{idle, is_flow, innermost}
-use Rattle.path_engine.proofs.engine.solve.Goals as goal
+use Rattle.path_engine.proofs.engine.ShortestPathsMethod.solve.Goals as goal
 
 pub loop-missing-init : goal.loop-missing-init
 loop-missing-init c = let i = idle _ in (i.0, omega (arith, i.1))
