@@ -1,11 +1,10 @@
 -- How a run begins and ends.
-use Rattle.std.proofs.Common.{◌≡◌, ℕ, ◌+◌, ◌*◌, ◌<◌, ◌≤◌, Bool, true, false, eqb, ltb, ◌≢◌, List, length, get_or, set, replicate, sym, refl, ap, ◌∙◌, subst, inl, inr, arith, length-set, get_or-set_other, get_or-set_same}
-use Rattle.std.proofs.lemmas.List.{get_or-take, length-take}
+use Rattle.std.proofs.Common.{◌≡◌, ℕ, ◌+◌, ◌*◌, ◌<◌, ◌≤◌, Bool, true, false, eqb, ltb, ◌≢◌, List, length, get_or, set, replicate, refl, ap, ◌∙◌, subst, inl, inr, arith, length-set, get_or-set_other, get_or-set_same}
 use Rattle.std.proofs.lemmas.Bool.{cases_eq, cases_lt, false_from_ne_true, lt-ltb, ltb-true}
 use Rattle.std.proofs.lemmas.Bool.Decides.{nat_tests}
 use Rattle.flows.specs.declared.Arc.{Arc}
 use Rattle.flows.specs.Sums.{only}
-use Rattle.flows.specs.Flows.{no_arc, arc_at, sum_flow, inside, size, IsFlow}
+use Rattle.flows.specs.Flows.{arc_at, sum_flow, inside, size, IsFlow}
 use Rattle.flows.proofs.Places.{zeros}
 use Rattle.flows.proofs.Sums.{sum_none}
 use Rattle.network.specs.declared.nets.Network.{Network}
@@ -16,7 +15,7 @@ use Rattle.push_engine.specs.declared.preflow.Task.{Task}
 use Rattle.push_engine.specs.declared.preflow.Preflow.{Preflow}
 use Rattle.path_engine.specs.Residual.{Innermost}
 use Rattle.path_engine.proofs.Closed.{falls_short}
-use Rattle.push_engine.specs.Preflows.{ceiling, limit_of, wanted_of, supply, Load, Labels, Holds, pending, fresh}
+use Rattle.push_engine.specs.Preflows.{ceiling, wanted_of, supply, Load, Labels, Holds, pending, fresh}
 use Rattle.push_engine.specs.Moves.{Settled}
 use Rattle.push_engine.proofs.Sums.{weigh_set}
 use Rattle.push_engine.proofs.Pushes.{ends_at}
@@ -133,7 +132,7 @@ module _ (net : Network) (t : Task) (q p : Preflow) (nodes : t.nodes ≡ net.nod
   rest = rw (← is) load.rest
 
   pub reaches : get_or p.excess 0 0 ≡ 0 → Reaches net.nodes t.limit.value t.wanted.value (arcs_of net) p.flow
-  reaches z = rw (← nodes, ← is) (record { is_flow = is_flow; full = omega (arith, sized_by) })
+  reaches z = rw (← is, ← nodes) (record { is_flow = is_flow; full = omega (arith, sized_by) })
 
   module _ (r : ℕ) (left : 0 < get_or p.excess 0 0) (i : Innermost net.nodes t.limit.value (arcs_of net) p.flow (inside r)) where
     -- node 0 stands at its ceiling

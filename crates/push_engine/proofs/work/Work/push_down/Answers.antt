@@ -1,5 +1,4 @@
-use Rattle.std.proofs.Common.{◌∙◌, ap, arith}
-use Rattle.push_engine.specs.declared.preflow.Task.{Task}
+use Rattle.std.proofs.Common.{◌∙◌, arith}
 use Rattle.push_engine.proofs.Rounds.{went, emptied, goes_on, raise_past, raise_full, raise_beside, can_push_down}
 use Rattle.push_engine.proofs.work.Work.push_down.Goals as goal
 use Rattle.push_engine.proofs.work.Work.push_down.Goals.{then-residual_from-gt0+then-end-height, then-residual_from-gt0+else-end-height+else-self-node-eq0, else-residual_from-gt0}
