@@ -1,18 +1,18 @@
 -- What stands while the records of a file are entered.
 use Rattle.std.proofs.Common.{◌≡◌, ℕ, suc, ◌+◌, ◌-◌, true, not, ◌||◌, List, [], ◌∷◌, ◌++◌, map, length, set, replicate, is_some, Some, None, Ok, Option, Result, sym, refl, ap, ◌∙◌, subst, append_assoc, append-nil, arith}
 use Rattle.std.proofs.lemmas.List.{length-append, length-map, length-replicate, length_push, get_or_at, set_at, map_push}
-use Rattle.std.proofs.lemmas.Bool.{le-leb, and_parts, and_from, false≢true}
+use Rattle.std.proofs.lemmas.Bool.{and_parts, false≢true}
 use Rattle.jobformat.specs.declared.FileFault.{FileFault}
-use Rattle.jobformat.specs.Format.{Entry, Contents, Fine, AllFine, WellFormed, FileOf, Answers, mask_fits}
+use Rattle.jobformat.specs.Format.{Entry, Contents, Fine, AllFine, WellFormed, mask_fits}
 use Rattle.sheets.specs.declared.NozzleState.TheVariants.{InService}
 use Rattle.records.specs.declared.TypeRecord.{TypeRecord}
 use Rattle.book.specs.declared.Outcome.TheVariants.{None as Unplanned}
-use Rattle.book.specs.Books.{Book, blank, opened_book, within, with_type, with_quantity, with_mask}
+use Rattle.book.specs.Books.{Book, blank, opened_book, with_type, with_quantity, with_mask}
 use Rattle.book.specs.Turns.{Turn, opening, enter_quantity, enter_mask}
 use Rattle.book.specs.Events.{State, done, fresh, Kept, Accepted, Happens, Event, Run, stop, next}
 use Rattle.job.specs.declared.job.Job.{Job}
 use Rattle.job.specs.Jobs.{state_of}
-use Rattle.loading.specs.Loaded.{type_of, loaded_book, quantity_turns, mask_turns, entry_turns, entries_turns, Loads, LoadsByTurns}
+use Rattle.loading.specs.Loaded.{type_of, quantity_turns, mask_turns, entry_turns, entries_turns, LoadsByTurns}
 
 -- a book with these types, and no outcome
 abbrev pub book_with : ℕ → List TypeRecord → ℕ → Book
@@ -94,16 +94,7 @@ module _ (number : ℕ) (c : Contents) (s₀ s : State) (kind : ℕ) (e : Entry)
   h : Loading number c s₀ s kind (e ∷ es)
   h = subst (Loading number c s₀ s kind) is at
 
-  -- the book has the type, and can take what the record holds
-  pub loading_known : within kind (length s.book.types) ≡ true
-  loading_known =
-      let long = ap (λ s. length s.book.types) h.state in
-      let parts = length-append (map type_of h.front) (replicate (length (e ∷ es)) blank) in
-      let old = length-map h.front type_of in
-      let new = length-replicate (length (e ∷ es)) blank in
-      let place = h.place in
-      and_from _ _ (le-leb 1 kind (omega arith)) (le-leb kind (length s.book.types) (omega arith))
-
+  -- the book can take what the record holds
   pub loading_fine : Fine (length s.book.nozzles) e
   loading_fine =
       let all : c.nozzles ≡ length s.book.nozzles = sym (ap (λ s. length s.book.nozzles) h.state ∙ length-replicate c.nozzles InService) in
@@ -132,13 +123,9 @@ loading_none_left number c s₀ s kind end [] h is none = refl
 loading_none_left number c s₀ s kind end (e ∷ es) h is none = absurd (omega (arith, h.place, h.formed.few_types, h.formed.count, ap length h.split, length-append h.front (e ∷ es)))
 
 -- the whole file is loaded
-loading_all : (number : ℕ) (c : Contents) (s₀ s : State) (kind : ℕ) → Loading number c s₀ s kind [] → (s ≡ fresh (loaded_book number c)) × Run s₀ (entries_turns 1 c.entries) s
-loading_all number c s₀ s kind h =
-    let all : h.front ≡ c.entries = sym (append-nil h.front) ∙ h.split in
-    (h.state ∙ ap (λ l. fresh (book_with number l c.nozzles)) (append-nil (map type_of h.front) ∙ ap (map type_of) all), subst (λ es. Run s₀ (entries_turns 1 es) s) all h.turns)
-
-pub loads : (bs : List ℕ) (number kind k r : ℕ) (c : Contents) (g : Result Contents FileFault) (j j₁ j' : Job) (rest : List Entry) → Ok c ≡ g → FileOf bs c → k ≡ c.types → r ≡ c.nozzles → Accepted (state_of j) (opening number k r) done (state_of j₁) → Loading number c (state_of j₁) (state_of j') kind rest → rest ≡ [] → Loads number g j (Ok tt) j' × LoadsByTurns number g j j' × Answers bs g
-loads bs number kind k r c g j j₁ j' rest is file p q a at none =
+pub loads_by_turns : (bs : List ℕ) (number kind k r : ℕ) (c : Contents) (g : Result Contents FileFault) (j j₁ j' : Job) (rest : List Entry) → Ok c ≡ g → k ≡ c.types → r ≡ c.nozzles → Accepted (state_of j) (opening number k r) done (state_of j₁) → Loading number c (state_of j₁) (state_of j') kind rest → rest ≡ [] → LoadsByTurns number g j j'
+loads_by_turns bs number kind k r c g j j₁ j' rest is p q a h none =
     let opens : Accepted (state_of j) (opening number c.types c.nozzles) done (state_of j₁) = rw (sym p, sym q) a in
-    let all = loading_all number c (state_of j₁) (state_of j') kind (subst (Loading number c (state_of j₁) (state_of j') kind) none at) in
-    subst (λ g. Loads number g j (Ok tt) j' × LoadsByTurns number g j j' × Answers bs g) is ((refl, all.0), next (happened (state_of j) (state_of j₁) _ _ refl opens.accepts.1 opens) all.1, file)
+    let all : h.front ≡ c.entries = sym (append-nil h.front) ∙ ap (λ l. h.front ++ l) (sym none) ∙ h.split in
+    let turns = subst (λ es. Run (state_of j₁) (entries_turns 1 es) (state_of j')) all h.turns in
+    subst (λ g. LoadsByTurns number g j j') is (next (happened (state_of j) (state_of j₁) _ _ refl opens.accepts.1 opens) turns)
