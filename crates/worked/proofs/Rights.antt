@@ -114,7 +114,7 @@ test_of (gap b kind number layer place) =
 test_of (takes b subtours nozzle least most) = also (read_test b) (takes_test b subtours nozzle least most)
 
 right : (e : Example) → Says (test_of e) → Right e
-right (limit W P K next) s = s
+right (limit W P K next) s = (s.0, s.1.0, s.1.1)
 right (planned b cost runs rows trail) s = (is_read b s.0, is_planned b cost runs rows trail s.1)
 right (short b runs last trail) s = (is_read b s.0, is_shortage b runs last trail s.1)
 right (gap b kind number layer place) s = (is_read b s.0, λ job. is_gap kind 1 b.types s.1.0, s.1.1.0, s.1.1.1.0, s.1.1.1.1)
