@@ -1,5 +1,5 @@
 use Rattle.sheets.proofs.Rules.{rules}
 use Rattle.sheets.proofs.board_keeps_rules.Goals as goal
 
-pub returns-clause-law : goal.returns-clause-law
-returns-clause-law c = rules
+pub returns : goal.returns
+returns c = rules
