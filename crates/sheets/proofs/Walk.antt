@@ -120,9 +120,6 @@ module _ (orders : List Order) (nozzles : List NozzleState) where
       pub counts_are : counts ≡ drop (place t j) xs
       pub few : place t j ≤ length orders + 8 * t + j
 
-    pub moved : (t j : ℕ) (counts left row rest u v : List ℕ) → Reached t j counts left row → rest ≡ counts → u ≡ left → v ≡ row → Reached t j rest u v
-    moved t j counts left row rest u v r e f g = rw (e, f, g) r
-
     -- the same place, by other numbers
     there : (t j u k : ℕ) (counts left row : List ℕ) → place u k ≡ place t j → place u k ≤ length orders + 8 * u + k → Reached t j counts left row → Reached u k counts left row
     there t j u k counts left row e few r =
