@@ -1,15 +1,14 @@
 -- What every job keeps.
-use Rattle.std.proofs.Common.{◌≡◌, ℕ, ◌≤◌, ltb, List, length, take, None, refl, subst, arith}
-use Rattle.std.proofs.lemmas.Bool.Decides.{nat_tests}
+use Rattle.std.proofs.Common.{◌≡◌, ℕ, ◌≤◌, List, length, take, Some, refl, subst, arith}
 use Rattle.network.specs.declared.sides.Cut.{Cut}
 use Rattle.limit_search.specs.declared.Step.{Step}
 use Rattle.book.specs.declared.Outcome.{Outcome}
 use Rattle.book.specs.declared.Outcome.TheVariants.{None as Unplanned, Planned, Short}
-use Rattle.book.specs.declared.faults.JobFault.TheVariants.{NoPlan, NoSuchPart}
-use Rattle.book.specs.Books.{Book, within, orders_in, runs_of, with_outcome}
+use Rattle.book.specs.declared.faults.JobFault.TheVariants.{NoPlan}
+use Rattle.book.specs.Books.{Book, orders_in, runs_of, with_outcome}
 use Rattle.book.specs.Events.{State, Promise, Kept}
 use Rattle.book.specs.Keeps.{PlannedKept, ShortKept}
-use Rattle.book.specs.Turns.{unless, step_refusal}
+use Rattle.book.specs.Turns.{step_refusal}
 use Rattle.book.proofs.Ended.{service_few}
 use Rattle.book.proofs.Props.{planned_out, short_out}
 use Rattle.sheets.specs.Boards.{sheet_of}
@@ -50,10 +49,11 @@ few s (Short runs cut) h k = omega (arith, k.1.trail.few, service_few s.book.noz
 pub runs_few : (j : Job) → runs_of j.outcome ≤ 9
 runs_few j = few (state_of j) j.outcome j.few_nozzles (kept_of j)
 
-by_runs : (s : State) (o : Outcome) (n : ℕ) → Promise s o → step_refusal o n ≡ unless (ltb 0 (runs_of o)) NoPlan (unless (within n (runs_of o)) (NoSuchPart n) None)
-by_runs s Unplanned n k = refl
-by_runs s (Planned cost runs) n k = let h = k.trail.shows.some in grind (arith, nat_tests)
-by_runs s (Short runs cut) n k = let h = k.1.trail.shows.some in grind (arith, nat_tests)
+-- without runs there is no step to show
+never_run : (s : State) (o : Outcome) (n : ℕ) → Promise s o → runs_of o ≡ 0 → step_refusal o n ≡ Some NoPlan
+never_run s Unplanned n k e = refl
+never_run s (Planned cost runs) n k e = absurd (omega (arith, e, k.trail.shows.some))
+never_run s (Short runs cut) n k e = absurd (omega (arith, e, k.1.trail.shows.some))
 
-pub steps_of : (j : Job) (n : ℕ) → step_refusal j.outcome n ≡ unless (ltb 0 (runs_of j.outcome)) NoPlan (unless (within n (runs_of j.outcome)) (NoSuchPart n) None)
-steps_of j n = by_runs (state_of j) j.outcome n (kept_of j)
+pub no_steps : (j : Job) (n : ℕ) → runs_of j.outcome ≡ 0 → step_refusal j.outcome n ≡ Some NoPlan
+no_steps j n e = never_run (state_of j) j.outcome n (kept_of j) e

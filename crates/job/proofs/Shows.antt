@@ -1,52 +1,29 @@
 -- What is shown of a plan.
-use Rattle.std.proofs.Common.{◌≡◌, ℕ, ◌+◌, ◌-◌, ◌<◌, ◌≤◌, ◌⊎◌, List, [], map, length, get_or, take, drop, Some, None, sym, refl, ap, ◌∙◌, ap₂, inl, inr, arith}
+use Rattle.std.proofs.Common.{◌≡◌, ℕ, ◌+◌, ◌-◌, ◌<◌, ◌≤◌, List, [], map, length, get_or, take, drop, Some, None, sym, ap, ◌∙◌, ap₂, arith}
 use Rattle.std.proofs.lemmas.List.FromFn.{get_or-map-range_with_len}
 use Rattle.std.proofs.lemmas.List.{ext_get_or, length-take-le, length-drop, get_or-take, get_or-drop}
-use Rattle.std.proofs.lemmas.Bool.Decides.{nat_tests}
 use Rattle.sheets.specs.declared.NozzleState.{NozzleState}
 use Rattle.sheets.specs.declared.Order.{Order}
 use Rattle.sheets.specs.Boards.{entered, row_of}
 use Rattle.book.specs.declared.Outcome.{Outcome}
 use Rattle.book.specs.declared.Outcome.TheVariants.{None as Unplanned, Planned, Short}
 use Rattle.book.specs.declared.faults.JobFault.{JobFault}
-use Rattle.book.specs.declared.faults.JobFault.TheVariants.{NoPlan, NoSuchPart, NoRoom}
 use Rattle.book.specs.Books.{orders_in}
 use Rattle.book.specs.Events.{State, Promise}
-use Rattle.book.specs.Turns.{missing, subtour_refusal}
+use Rattle.book.specs.Turns.{missing}
 use Rattle.book.proofs.Orders.{orders_are, complete_none}
 use Rattle.job.specs.declared.job.Job.{Job}
 use Rattle.job.specs.Jobs.{book_of, state_of, rows_by}
 use Rattle.job.proofs.Always.{kept_of}
 
--- which subtours are refused
-pub no_plan : (o : Outcome) (n r places : ℕ) → ((cost runs : ℕ) → o ≡ Planned cost runs → ⊥) → subtour_refusal o n r places ≡ Some NoPlan
-no_plan Unplanned n r places h = refl
-no_plan (Planned cost runs) n r places h = absurd (h cost runs refl)
-no_plan (Short runs cut) n r places h = refl
-
-module _ (o : Outcome) (cost runs : ℕ) (is : o ≡ Planned cost runs) (n r places : ℕ) where
-  at_planned : subtour_refusal o n r places ≡ subtour_refusal (Planned cost runs) n r places
-  at_planned = ap (λ (x : Outcome). subtour_refusal x n r places) is
-
-  pub bad_number : (n < 1) ⊎ ((1 ≤ n) × (cost < n)) → subtour_refusal o n r places ≡ Some (NoSuchPart n)
-  bad_number (inl h) = at_planned ∙ grind (arith, nat_tests)
-  bad_number (inr h) = at_planned ∙ (let l = h.0 in let m = h.1 in grind (arith, nat_tests))
-
-  pub no_room : 1 ≤ n → n ≤ cost → (m : ℕ) → r ≡ m → places < m → subtour_refusal o n r places ≡ Some (NoRoom m)
-  no_room l h m e s = at_planned ∙ rw e (grind (arith, nat_tests))
-
-  pub fine : 1 ≤ n → n ≤ cost → r ≤ places → subtour_refusal o n r places ≡ None
-  fine l h s = at_planned ∙ grind (arith, nat_tests)
-
 -- a plan in force is of a book in which nothing is missing
 planned_none : (s : State) (o : Outcome) (cost runs : ℕ) → o ≡ Planned cost runs → Promise s o → missing 1 s.book.types ≡ None
-planned_none s Unplanned cost runs e k = absurd (let z : ◌≡◌ {A = ℕ} 0 1 = cc in omega arith)
+planned_none s Unplanned cost runs e k = cc
 planned_none s (Planned c r) cost runs e k = complete_none 1 s.book.types k.complete
-planned_none s (Short r cut) cost runs e k = absurd (let z : ◌≡◌ {A = ℕ} 0 1 = cc in omega arith)
+planned_none s (Short r cut) cost runs e k = cc
 
 pub never_missing : (j : Job) (cost runs : ℕ) (f : JobFault) → j.outcome ≡ Planned cost runs → missing 1 (book_of j).types ≡ Some f → ⊥
-never_missing j cost runs f e m =
-    let none = planned_none (state_of j) j.outcome cost runs e (kept_of j) in let z : ◌≡◌ {A = ℕ} 0 1 = cc in omega arith
+never_missing j cost runs f e m = cc (planned_none (state_of j) j.outcome cost runs e (kept_of j))
 
 -- the row of the board that the book makes is the subtour of the plan's sheet
 pub row_is : (j : Job) (cost runs n : ℕ) → j.outcome ≡ Planned cost runs → 1 ≤ n → n ≤ cost → (orders : List Order) (states : List NozzleState) → (book_of j).types ≡ map entered orders → (book_of j).nozzles ≡ states

@@ -8,6 +8,7 @@ use Rattle.flows.specs.declared.Arc.{Arc}
 use Rattle.flows.specs.Flows.{no_arc, arc_at}
 use Rattle.sheets.specs.declared.NozzleState.{NozzleState}
 use Rattle.sheets.specs.declared.Order.{Order}
+use Rattle.sheets.specs.declared.boards.picks.Pick.{Pick}
 use Rattle.sheets.specs.Sheets.{in_service}
 use Rattle.sheets.specs.Boards.{join_to, when, may, supply, choice, exit, nozzle_node, board_arcs, picks}
 use Rattle.sheets.proofs.Arcs.{supplies, choices, choices_of, exits}
@@ -32,14 +33,24 @@ at_one P d a true zero e h = e
 at_one P d a true (suc q) e h = absurd (omega arith)
 at_one P d a false q e h = absurd (omega arith)
 
+abbrev pub no_pick : Pick
+no_pick = record { left = 0; piece = 0 }
+
+abbrev pub pick_at : List Pick → ℕ → Pick
+pick_at ps j = get_or ps j no_pick
+
+-- what x pieces of the type w make of a pick
+abbrev pub Counted : Pick → ℕ → ℕ → Pick → Type 0
+Counted old x w new = (new.left ≡ old.left - x) × (new.piece ≡ cond (ltb 0 old.left && leb old.left x) w old.piece)
+
 module _ (arcs : List Arc) (xs : List ℕ) (first i : ℕ) where
   -- what the first n arcs bring to the node v
   abbrev brought : ℕ → ℕ → List ℕ
   brought v n = join_to n (λ p. when (eqb (arc_at arcs p).head v) (replicate (get_or xs p 0) ((arc_at arcs p).tail - 1)))
 
   -- after p arcs, how many pieces each node lacks up to its piece i, and which that is
-  abbrev Walked : ℕ → List ℕ → List ℕ → Type 0
-  Walked p left out = (j : ℕ) → j < length out → (get_or left j 0 ≡ suc i - length (brought (first + j) p)) × (get_or out j 0 ≡ get_or (brought (first + j) p) i 0)
+  abbrev Walked : ℕ → List Pick → Type 0
+  Walked p ps = (j : ℕ) → j < length ps → ((pick_at ps j).left ≡ suc i - length (brought (first + j) p)) × ((pick_at ps j).piece ≡ get_or (brought (first + j) p) i 0)
 
   more_other : (v p : ℕ) → ((arc_at arcs p).head ≡ v → ⊥) → brought v (suc p) ≡ brought v p
   more_other v p ne = rw (ne_eqb (arc_at arcs p).head v ne) (append-nil _)
@@ -53,19 +64,18 @@ module _ (arcs : List Arc) (xs : List ℕ) (first i : ℕ) where
   skip v p (suc n) e = rw add-suc (more_other v (p + n) (e (p + n) (omega arith) (omega arith)) ∙ skip v p n (λ q l h. e q l (omega arith)))
 
   -- the arc p ends at the node of the place k
-  walk_on : (p k w y z : ℕ) (left out : List ℕ) → Walked p left out → k < length out → k < length left → (arc_at arcs p).head ≡ first + k → (arc_at arcs p).tail - 1 ≡ w
-      → y ≡ get_or left k 0 - get_or xs p 0 → z ≡ cond (ltb 0 (get_or left k 0) && leb (get_or left k 0) (get_or xs p 0)) w (get_or out k 0)
-      → Walked (p + 1) (set left k y) (set out k z)
-  walk_on p k w y z left out walked ho hl at from ly oz j h =
+  walk_on : (p k w : ℕ) (y : Pick) (ps : List Pick) → Walked p ps → k < length ps → (arc_at arcs p).head ≡ first + k → (arc_at arcs p).tail - 1 ≡ w
+      → Counted (pick_at ps k) (get_or xs p 0) w y
+      → Walked (p + 1) (set ps k y)
+  walk_on p k w y ps walked h at from c j l =
       rw add-one
       (elim (cases_eq j k) [
         | inl e ↦
-            rw (e, get_or-set_same left k y 0 hl, get_or-set_same out k z 0 ho, more_here (first + k) p at, from) (
-              simp (length-append, length-replicate) (omega (arith, (walked k ho).0)),
-              oz ∙ ap (cond _ w) (walked k ho).1 ∙ sym (after i (get_or xs p 0) w (get_or left k 0) (brought (first + k) p) (walked k ho).0),
+            rw (e, get_or-set_same ps k y no_pick h, more_here (first + k) p at, from) (
+              simp (length-append, length-replicate) (omega (arith, c.0, (walked k h).0)),
+              c.1 ∙ ap (cond _ w) (walked k h).1 ∙ sym (after i (get_or xs p 0) w (pick_at ps k).left (brought (first + k) p) (walked k h).0),
             )
-        | inr ne ↦
-            rw (get_or-set_other left k j y 0 ne, get_or-set_other out k j z 0 ne, more_other (first + j) p (omega arith)) (walked j (rw length-set at h))
+        | inr ne ↦ rw (get_or-set_other ps k j y no_pick ne, more_other (first + j) p (omega arith)) (walked j (rw length-set at l))
       ])
 
 module _ (orders : List Order) (nozzles : List NozzleState) where
@@ -113,46 +123,40 @@ module _ (orders : List Order) (nozzles : List NozzleState) where
 
   module _ (xs : List ℕ) (i : ℕ) where
     -- the walk stands at the type t and the nozzle j, before the counts of the arcs from there on
-    pub record Reached (t j : ℕ) (counts left row : List ℕ) : Type 0 where
-      pub walked : Walked (board_arcs orders nozzles) xs first i (place t j) left row
-      pub left_long : length left ≡ 8
-      pub row_long : length row ≡ 8
+    pub record Reached (t j : ℕ) (counts : List ℕ) (ps : List Pick) : Type 0 where
+      pub walked : Walked (board_arcs orders nozzles) xs first i (place t j) ps
+      pub long : length ps ≡ 8
       pub counts_are : counts ≡ drop (place t j) xs
       pub few : place t j ≤ length orders + 8 * t + j
 
-    pub moved : (t j : ℕ) (counts left row rest u v : List ℕ) → Reached t j counts left row → rest ≡ counts → u ≡ left → v ≡ row → Reached t j rest u v
-    moved t j counts left row rest u v r e f g = rw (e, f, g) r
-
     -- the same place, by other numbers
-    there : (t j u k : ℕ) (counts left row : List ℕ) → place u k ≡ place t j → place u k ≤ length orders + 8 * u + k → Reached t j counts left row → Reached u k counts left row
-    there t j u k counts left row e few r =
+    there : (t j u k : ℕ) (counts : List ℕ) (ps : List Pick) → place u k ≡ place t j → place u k ≤ length orders + 8 * u + k → Reached t j counts ps → Reached u k counts ps
+    there t j u k counts ps e few r =
         record {
-          walked = subst (λ p. Walked (board_arcs orders nozzles) xs first i p left row) (sym e) r.walked;
-          left_long = r.left_long;
-          row_long = r.row_long;
+          walked = subst (λ p. Walked (board_arcs orders nozzles) xs first i p ps) (sym e) r.walked;
+          long = r.long;
           counts_are = r.counts_are ∙ ap (λ p. drop p xs) (sym e);
           few = few;
         }
 
-    pub start : (counts : List ℕ) → counts ≡ drop (length orders) xs → Reached 0 0 counts (replicate 8 (i + 1)) (replicate 8 0)
+    pub start : (counts : List ℕ) → counts ≡ drop (length orders) xs → Reached 0 0 counts (replicate 8 (record { left = i + 1; piece = 0 }))
     start counts from =
+        let none : Pick = record { left = i + 1; piece = 0 } in
         let at : place 0 0 ≡ length orders = omega (arith, supplies_many (length orders)) in
-        let none : (j : ℕ) → brought (board_arcs orders nozzles) xs first i (first + j) (length orders) ≡ [] =
+        let nothing : (j : ℕ) → brought (board_arcs orders nozzles) xs first i (first + j) (length orders) ≡ [] =
         λ j. rw zero-add at (skip (board_arcs orders nozzles) xs first i (first + j) 0 (length orders) (λ q l h e. omega (arith, supply_ends q (omega (arith, supplies_many (length orders)))))) in
         record {
-          walked = λ j h. rw (at, none j) (get_or-replicate 8 j (i + 1) 0 (omega arith) ∙ omega arith, get_or-replicate 8 j 0 0 (omega arith));
-          left_long = refl;
-          row_long = refl;
+          walked = λ j h. rw (at, nothing j, get_or-replicate 8 j none no_pick (omega arith)) (omega arith, refl);
+          long = refl;
           counts_are = from ∙ ap (λ p. drop p xs) (sym at);
           few = omega arith;
         }
 
     -- the arc from t to j, with the count x
-    pub take_arc : (t j x y z : ℕ) (counts rest left row : List ℕ) → Reached t j counts left row → t < length orders → j < length nozzles → j < 8 → may orders nozzles t j ≡ true
-        → place t j < length xs → counts ≡ x ∷ rest
-        → y ≡ get_or left j 0 - x → z ≡ cond (ltb 0 (get_or left j 0) && leb (get_or left j 0) x) (t + 1) (get_or row j 0)
-        → Reached t (j + 1) rest (set left j y) (set row j z)
-    take_arc t j x y z counts rest left row r h l few m within taken ly oz =
+    pub take_arc : (t j x : ℕ) (y : Pick) (counts rest : List ℕ) (ps : List Pick) → Reached t j counts ps → t < length orders → j < length nozzles → j < 8 → may orders nozzles t j ≡ true
+        → place t j < length xs → counts ≡ x ∷ rest → Counted (pick_at ps j) x (t + 1) y
+        → Reached t (j + 1) rest (set ps j y)
+    take_arc t j x y counts rest ps r h l few m within taken counted =
         let p = place t j in
         let at = choice_at t j p h l m refl in
         let more = drop_more xs p 0 within in
@@ -162,29 +166,28 @@ module _ (orders : List Order) (nozzles : List NozzleState) where
         record {
           walked =
               rw next
-              (walk_on (board_arcs orders nozzles) xs first i p j (t + 1) y z left row r.walked (omega arith) (omega arith)
-              (ap (λ (a : Arc). a.head) at) (ap (λ (a : Arc). a.tail - 1) at ∙ omega arith) (rw is at ly) (rw is at oz));
-          left_long = length-set left j y ∙ r.left_long;
-          row_long = length-set row j z ∙ r.row_long;
+              (walk_on (board_arcs orders nozzles) xs first i p j (t + 1) y ps r.walked (omega arith)
+              (ap (λ (a : Arc). a.head) at) (ap (λ (a : Arc). a.tail - 1) at ∙ omega arith) (rw is at counted));
+          long = length-set ps j y ∙ r.long;
           counts_are = then ∙ ap (λ p. drop p xs) (sym next);
           few = omega arith;
         }
 
     -- there is no arc from t to j
-    pub no_arc_lem : (t j : ℕ) (counts left row : List ℕ) → Reached t j counts left row → may orders nozzles t j ≡ false → Reached t (j + 1) counts left row
-    no_arc_lem t j counts left row r m =
+    pub no_arc_lem : (t j : ℕ) (counts : List ℕ) (ps : List Pick) → Reached t j counts ps → may orders nozzles t j ≡ false → Reached t (j + 1) counts ps
+    no_arc_lem t j counts ps r m =
         let same : place t (j + 1) ≡ place t j = omega (arith, length_more (choices orders nozzles t) j, ap (λ b. length (when b (choice orders t j ∷ []))) m) in
-        there t j t (j + 1) counts left row same (omega arith) r
+        there t j t (j + 1) counts ps same (omega arith) r
 
     -- all nozzles are passed
-    pub next_type : (t j : ℕ) (counts left row : List ℕ) → Reached t j counts left row → j ≡ length nozzles → j ≤ 8 → Reached (t + 1) 0 counts left row
-    next_type t j counts left row r e l =
+    pub next_type : (t j : ℕ) (counts : List ℕ) (ps : List Pick) → Reached t j counts ps → j ≡ length nozzles → j ≤ 8 → Reached (t + 1) 0 counts ps
+    next_type t j counts ps r e l =
         let same : place (t + 1) 0 ≡ place t j = omega (arith, length_more (choices_of orders nozzles) t, ap (λ n. length (join_to n (choices orders nozzles t))) e) in
-        there t j (t + 1) 0 counts left row same (omega arith) r
+        there t j (t + 1) 0 counts ps same (omega arith) r
 
-    -- all types are passed: the row is found
-    pub finish : (t : ℕ) (counts left row : List ℕ) → Reached t 0 counts left row → t ≡ length orders → (j : ℕ) → j < 8 → get_or row j 0 ≡ get_or (picks (board_arcs orders nozzles) xs (nozzle_node orders j)) i 0
-    finish t counts left row r e j h =
+    -- all types are passed: the picks are found
+    pub finish : (t : ℕ) (counts : List ℕ) (ps : List Pick) → Reached t 0 counts ps → t ≡ length orders → (j : ℕ) → j < 8 → (pick_at ps j).piece ≡ get_or (picks (board_arcs orders nozzles) xs (nozzle_node orders j)) i 0
+    finish t counts ps r e j h =
         let p = place t 0 in
         let stands : p ≡ length S + length C = omega (arith, ap (λ n. length (join_to n (choices_of orders nozzles))) e) in
         let all : p + (length (board_arcs orders nozzles) - p) ≡ length (board_arcs orders nozzles) = omega (arith, length-append S (C ++ E), length-append C E) in

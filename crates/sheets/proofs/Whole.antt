@@ -1,5 +1,5 @@
 -- A sheet of complete orders, read by their figures.
-use Rattle.std.proofs.Common.{◌≡◌, ℕ, suc, ◌<◌, true, List, [], map, length, get_or, Some, sym, ap, ◌∙◌, arith}
+use Rattle.std.proofs.Common.{◌≡◌, ℕ, suc, ◌<◌, true, List, [], map, length, get_or, Some, sym, ap, arith}
 use lib.ListN.{length-map}
 use Rattle.std.proofs.lemmas.List.{get_or-map}
 use Rattle.std.proofs.lemmas.Bool.{and_parts}
@@ -21,9 +21,6 @@ pub record IsWhole (orders : List Order) (nozzles : List NozzleState) (rows : Li
   pub whole : (t : ℕ) → t < length orders → sum_to (length nozzles) (taken rows t) ≡ quantity_of orders t
   pub limited : (t j : ℕ) → t < length orders → j < length nozzles → Within (order_at orders t).limit (taken rows t j)
 
-some_is : (m n : ℕ) → Some m ≡ Some n → m ≡ n
-some_is m n e = cc
-
 module _ (orders : List Order) where
   -- the records of the orders, and their number
   as_many : length (map entered orders) ≡ length orders
@@ -41,7 +38,7 @@ module _ (orders : List Order) where
               let k : t < length orders = omega (arith, s.known i j t h l e, as_many) in
               let m : is_member (entered (order_at orders t)).mask j ≡ true = rw (at t k) at (s.member i j t h l e) in
               (k, rw (s.serving i j t h l e) m);
-          whole = λ t h. some_is _ _ (sym (s.whole t (omega (arith, as_many))) ∙ ap (λ (x : TypeRecord). x.quantity) (at t h));
+          whole = λ t h. cc (s.whole t (omega (arith, as_many)), ap (λ (x : TypeRecord). x.quantity) (at t h));
           limited = λ t j h l. rw (at t h) at (s.limited t j (omega (arith, as_many)) l);
         }
 

@@ -5,6 +5,7 @@ use crate::{NozzleState, Order};
 use arrayvec::ArrayVec;
 
 mod calls;
+mod picks;
 
 /// Why a book is no board: it has not 1 to 24 types and 1 to 8 nozzles, or a quantity or a mask was
 /// not entered, of the lowest such type.

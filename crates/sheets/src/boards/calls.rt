@@ -1,10 +1,11 @@
 // Making a board, and what it gives: its total, its network and the rows of its sheet.
-ghost use Rattle.std.specs.Prelude.{◌≡◌, ℕ, ◌<◌, ◌≤◌, ◌&&◌, map, length, if◌then◌else◌, Ok, Err, nat_le, nat_lt, slice_index};
+ghost use Rattle.std.specs.Prelude.{◌≡◌, ℕ, ◌<◌, ◌≤◌, map, length, Ok, Err, slice_index};
 ghost use Rattle.network.specs.Nets.{arcs_of};
 ghost use Rattle.sheets.specs.Boards.{entered, total, node_count, board_arcs, piece_of, row_of};
 ghost use Rattle.sheets.specs.Laws.{Sized};
 ghost use Rattle.sheets.specs.Made.{orders_of, nozzles_of, Refused};
 
+use crate::boards::picks::Pick;
 use crate::boards::{Board, BoardFault};
 use crate::{NozzleState, Order};
 use arrayvec::ArrayVec;
@@ -94,21 +95,21 @@ impl Board {
     {
         let orders = self.orders.as_slice();
         let nozzles = self.nozzles.as_slice();
-        // how many pieces each nozzle lacks, up to the one that it takes in this subtour
-        let mut left = [u64::from(subtour) + 1; 8];
-        let mut row = [0; 8];
+        let none = Pick {
+            left: u64::from(subtour) + 1,
+            piece: 0,
+        };
+        let mut picks = [none; 8];
         // the arcs from the source to the types come first
         let mut counts = flow[orders.len()..].iter();
         for (t, order) in orders.iter().enumerate() {
             for (j, nozzle) in nozzles.iter().enumerate() {
                 if order.goes_to(nozzle, j as u8) {
-                    let count = u64::from(*counts.next().unwrap());
-                    row[j] = piece_after(left[j], count, t as u8 + 1, row[j]);
-                    left[j] = left[j].saturating_sub(count);
+                    picks[j].count(*counts.next().unwrap(), t as u8 + 1);
                 }
             }
         }
-        row
+        picks.map(|pick| pick.piece)
     }
 
     /// Writes what each nozzle takes in a subtour, numbered from 0, under a flow: one byte for each
@@ -132,16 +133,5 @@ fn arc(tail: usize, head: usize, capacity: Capacity) -> Arc
         tail: tail as u8,
         head: head as u8,
         capacity,
-    }
-}
-
-// The wanted piece, with `left` pieces up to it, once `count` more came.
-fn piece_after(left: u64, count: u64, coming: u8, piece: u8) -> u8
-    ensures { result ≡ (if nat_lt 0 left && nat_le left count then coming else piece) }
-{
-    if left > 0 && left <= count {
-        coming
-    } else {
-        piece
     }
 }

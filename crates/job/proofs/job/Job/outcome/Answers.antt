@@ -1,6 +1,5 @@
-use Rattle.std.proofs.Common.{refl}
 use Rattle.job.proofs.Always.{kept_of}
 use Rattle.job.proofs.job.Job.outcome.Goals as goal
 
-pub returns : goal.returns
-returns c = record { same = refl; kept = kept_of c.args.self.now }
+pub returns-clause-kept : goal.returns-clause-kept
+returns-clause-kept c = kept_of c.args.self.now

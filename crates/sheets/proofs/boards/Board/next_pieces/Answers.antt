@@ -1,10 +1,8 @@
-use Rattle.std.proofs.Common.{◌-◌, ◌+◌, ◌≤◌, ◌∷◌, length, drop, sym, ap, ◌∙◌, arith}
+use Rattle.std.proofs.Common.{rules, ◌≡◌, get_or, ◌-◌, ◌≤◌, length, drop, ap, ◌∙◌, arith}
 use Rattle.std.proofs.lemmas.List.{take_all, length-drop}
 use Rattle.std.specs.Slice.Iter.{iter_rest}
-use Rattle.sheets.specs.Boards.{piece_of}
-use Rattle.sheets.specs.Made.{orders_of}
 use Rattle.sheets.proofs.Held.{may_is}
-use Rattle.sheets.proofs.Walk.{moved, start, take_arc, no_arc_lem, next_type, finish}
+use Rattle.sheets.proofs.Walk.{no_pick, pick_at, start, take_arc, no_arc_lem, next_type, finish}
 use Rattle.sheets.proofs.boards.Board.next_pieces.Goals as goal
 use Rattle.sheets.proofs.boards.Board.next_pieces.Goals.{then-goes_to, else-goes_to}
 
@@ -27,24 +25,21 @@ loop-j-preserved c =
     elim c.if-goes_to.branch [
       | then-goes_to w ↦
           let taken = rw w.unwrap.ensures at w.next.ensures.steps in
-          moved orders nozzles xs i t (j + 1) _ _ _ _ _ _
-          (take_arc orders nozzles xs i t j w.from-count.result _ _ _ (iter_rest w.next.new.self) c.loop-j.left c.loop-j.row c.loop-j.invariant (omega arith) (omega arith) (omega arith) (is ∙ w.if-goes_to.true)
-          (omega (arith, c.loop-j.invariant.few)) (taken ∙ ap (λ x. x ∷ iter_rest w.next.new.self) (sym w.from-count.ensures)) w.saturating_sub.ensures w.piece_after.ensures)
-          (ap iter_rest w.counts-is) w.left-is w.row-is
-      | else-goes_to w ↦
-          moved orders nozzles xs i t (j + 1) _ _ _ _ _ _
-          (no_arc_lem orders nozzles xs i t j _ c.loop-j.left c.loop-j.row c.loop-j.invariant (is ∙ w.if-goes_to.false)) (ap iter_rest w.counts-is) w.left-is w.row-is
+          rw (w.counts-is, w.picks-is)
+          (take_arc orders nozzles xs i t j w.unwrap.result.now w.count.new.self _ (iter_rest w.next.new.self) c.loop-j.picks c.loop-j.invariant (omega arith) (omega arith) (omega arith)
+          (is ∙ w.if-goes_to.true) (omega (arith, c.loop-j.invariant.few)) taken (w.count.ensures.left, w.count.ensures.piece))
+      | else-goes_to w ↦ rw (w.counts-is, w.picks-is) (no_arc_lem orders nozzles xs i t j _ c.loop-j.picks c.loop-j.invariant (is ∙ w.if-goes_to.false))
     ]
 
 pub loop-t-preserved : goal.loop-t-preserved
 loop-t-preserved c =
-    next_type c.as_slice-orders.result.now c.as_slice-nozzles.result.now c.args.flow.now c.args.subtour _ c.loop-j.j _ _ _ c.loop-j.invariant (omega arith)
+    next_type c.as_slice-orders.result.now c.as_slice-nozzles.result.now c.args.flow.now c.args.subtour _ c.loop-j.j _ _ c.loop-j.invariant (omega arith)
     (omega (arith, ap length c.as_slice-nozzles.ensures.value))
 
 pub returns-clause-pieces : goal.returns-clause-pieces
 returns-clause-pieces c = λ j h.
-    let xs = c.args.flow.now in
-    let i = c.args.subtour in
-    finish c.as_slice-orders.result.now c.as_slice-nozzles.result.now xs i c.loop-t.t _ _ _ c.loop-t.invariant (omega arith) j h
-    ∙ ap (λ os. piece_of os c.as_slice-nozzles.result.now xs i j) c.as_slice-orders.ensures.value
-    ∙ ap (λ ns. piece_of (orders_of c.args.self.now) ns xs i j) c.as_slice-nozzles.ensures.value
+    let m = c.map.ensures.items.at j no_pick 0 h in
+    let e : get_or c.map.result j 0 ≡ (pick_at c.loop-t.picks j).piece = search rules in
+    e
+    ∙ rw (← c.as_slice-orders.ensures.value, ← c.as_slice-nozzles.ensures.value)
+    (finish c.as_slice-orders.result.now c.as_slice-nozzles.result.now c.args.flow.now c.args.subtour c.loop-t.t _ _ c.loop-t.invariant (omega arith) j h)
