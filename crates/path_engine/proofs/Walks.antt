@@ -10,8 +10,8 @@ use Rattle.network.specs.Runs.{ZeroAfter}
 use Rattle.network.proofs.Facts.{at_most, from_source}
 use Rattle.path_engine.specs.declared.steps.LimitedNet.{LimitedNet}
 use Rattle.path_engine.specs.declared.search.Search.{Search}
-use Rattle.path_engine.specs.Residual.{end_at, Shortest, changed}
-use Rattle.path_engine.specs.Searches.{arcs_in, residual_in, has, depth_at, room_at, Led, Tree, Searched, Carries, Grown, passed}
+use Rattle.path_engine.specs.Residual.{end_at, changed}
+use Rattle.path_engine.specs.Searches.{arcs_in, residual_in, has, depth_at, room_at, Led, Tree, Carries, Grown, passed}
 use Rattle.path_engine.proofs.Arcs.{small_at, other, ways}
 use Rattle.flows.proofs.Places.{sum_more, sum_less, each_set}
 use Rattle.path_engine.proofs.Places.{unchanged, changed_set}
@@ -38,7 +38,7 @@ module _ (N : LimitedNet) (x : List ℕ) (s : Search) where
       ]
 
   -- the arc that a node was reached by, as the code reads it
-  pub led_as : (v : ℕ) → Tree N x s [] → has s v ≡ true → v ≢ 0 → Came v (get_or s.came v 0) (end_at arcs (get_or s.came v 0) v)
+  led_as : (v : ℕ) → Tree N x s [] → has s v ≡ true → v ≢ 0 → Came v (get_or s.came v 0) (end_at arcs (get_or s.came v 0) v)
   led_as v t h nz =
       let d = t.led v h nz in
       let e = subst (λ (k : ℕ). Came v k d.1.0) (sym (d.2 tt)) d.1.1 in
@@ -71,7 +71,16 @@ module _ (N : LimitedNet) (x : List ℕ) (s : Search) where
       }
 
   -- one arc back: what is passed along k to v comes from u
-  module _ (m : ℕ) (y : List ℕ) (v k u : ℕ) (d : Came v k u) (i : Walk m y v) where
+  module _ (m : ℕ) (y : List ℕ) (v : ℕ) (t : Tree N x s []) (i : Walk m y v) (apart : v ≢ 0) where
+    abbrev k : ℕ
+    k = get_or s.came v 0
+
+    abbrev u : ℕ
+    u = end_at arcs k v
+
+    d : Came v k u
+    d = led_as v t i.here apart
+
     same_there : get_or y k 0 ≡ get_or x k 0
     same_there = i.fresh v k u d (omega arith)
 
@@ -140,8 +149,3 @@ module _ (N : LimitedNet) (x : List ℕ) (s : Search) where
           };
           more = omega (arith, level 0, none x, none y);
         }
-
-    pub as_deep : {aim : _} → Searched N x aim s → has s 1 ≡ true → Shortest L arcs x 1 (changed x y (length arcs))
-    as_deep r found =
-        let deep : changed x y (length arcs) ≡ depth_at s 1 = omega (arith, i.spent, r.tree.root, ap (depth_at s) e) in
-        rw deep (r.nearest found)
