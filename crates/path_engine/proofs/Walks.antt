@@ -1,6 +1,7 @@
 -- What one arc of a walk back from node 1 leaves.
 use Rattle.std.proofs.Common.{◌≡◌, ℕ, ◌+◌, ◌-◌, ◌^◌, ◌<◌, ◌≤◌, true, cond, eqb, ◌≢◌, ◌⊎◌, List, [], length, get_or, set, sym, refl, ap, ◌∙◌, subst, inl, inr, arith, length-set, get_or-set_other}
 use Rattle.std.proofs.lemmas.Bool.{cases_eq}
+use Rattle.std.proofs.lemmas.List.Elements.{All-nil}
 use Rattle.std.proofs.lemmas.Bool.Decides.{nat_tests}
 use Rattle.flows.specs.declared.Arc.{Arc}
 use Rattle.flows.specs.Sums.{only}
@@ -41,7 +42,7 @@ module _ (N : LimitedNet) (x : List ℕ) (s : Search) where
   led_as : (v : ℕ) → Tree N x s [] → has s v ≡ true → v ≢ 0 → Came v (get_or s.came v 0) (end_at arcs (get_or s.came v 0) v)
   led_as v t h nz =
       let d = t.led v h nz in
-      let e = subst (λ (k : ℕ). Came v k d.1.0) (sym (d.2 tt)) d.1.1 in
+      let e = subst (λ (k : ℕ). Came v k d.1.0) (sym (d.2 (All-nil _))) d.1.1 in
       subst (λ (u : ℕ). Came v (get_or s.came v 0) u) (sym e.there) e
 
   -- y is x with m more from v to node 1, by the arcs that lie deeper than v
