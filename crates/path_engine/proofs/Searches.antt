@@ -1,8 +1,8 @@
 -- What each step of a search leaves.
-use Rattle.std.proofs.Common.{◌≡◌, ℕ, zero, suc, ◌+◌, ◌<◌, ◌≤◌, min, true, false, ◌≢◌, ◌⊎◌, List, [], ◌∷◌, ◌++◌, length, get_or, slice_index_or, replicate, sym, refl, ap, ◌∙◌, subst, inl, inr, arith, length-set, get_or-set_other, get_or-set_same}
-use Rattle.std.specs.List.{AllByRecursion}
+use Rattle.std.proofs.Common.{◌≡◌, ℕ, zero, suc, ◌+◌, ◌<◌, ◌≤◌, min, true, false, ◌≢◌, ◌⊎◌, List, [], ◌∷◌, ◌++◌, length, get_or, slice_index_or, replicate, sym, refl, ap, ◌∙◌, subst, inl, inr, Some, arith, length-set, get_or-set_other, get_or-set_same}
+use Rattle.std.specs.List.{All}
 use Rattle.std.proofs.lemmas.List.{length_push}
-use Rattle.std.proofs.ByRecursion.{All-push, All-weaker}
+use Rattle.std.proofs.lemmas.List.Elements.{All-cons, All-head, All-nil, All-pop, All-push, All-tail, All-weaker}
 use Rattle.std.proofs.lemmas.Bool.{cases_eq, cases_lt, both_ways}
 use Rattle.flows.specs.declared.Arc.{Arc}
 use Rattle.flows.specs.Flows.{arc_at}
@@ -14,26 +14,28 @@ use Rattle.path_engine.specs.declared.search.Goal.TheVariants.{Sink}
 use Rattle.path_engine.specs.declared.search.Label.{Label}
 use Rattle.path_engine.specs.declared.search.Search.{Search}
 use Rattle.path_engine.specs.Residual.{end_at, Route}
-use Rattle.path_engine.specs.Searches.{arcs_in, residual_in, no_label, has, label_at, depth_at, room_at, outside, effort, LedTo, Tree, Beside, Waits, Rising, Met, Turn, Searched, begun, discovered, noted}
+use Rattle.path_engine.specs.Searches.{arcs_in, residual_in, no_label, has, label_at, depth_at, room_at, outside, effort, LedTo, Tree, Beside, Near, Waits, Rising, Met, Turn, Searched, begun, discovered, noted}
 use Rattle.path_engine.proofs.Sides.{alone, outside_alone, inserted_cases, inserted_new, inserted_kept, outside_less}
 use Rattle.path_engine.proofs.Arcs.{end_few, back_again}
 
 -- lists of visits
-all_both : {X : Type 0} (P Q : X → Type 0) {S : X → Type 0} → ((e : X) → P e → Q e → S e) → (w : List X) → AllByRecursion P w → AllByRecursion Q w → AllByRecursion S w
-all_both P Q f [] p q = tt
-all_both P Q f (e ∷ w) p q = (f e p.0 q.0, all_both P Q f w p.1 q.1)
+all_both : {X : Type 0} (P Q S : X → Type 0) → ((e : X) → P e → Q e → S e) → (w : List X) → All P w → All Q w → All S w
+all_both P Q S f w p q = λ k d lt. f _ (p k d lt) (q k d lt)
 
-all_split : {X : Type 0} (P : X → Type 0) (w : List X) (e : X) → AllByRecursion P (w ++ e ∷ []) → AllByRecursion P w × P e
-all_split P [] e h = (tt, h.0)
-all_split P (f ∷ w) e h = let i = all_split P w e h.1 in ((h.0, i.0), i.1)
+all_split : {X : Type 0} (P : X → Type 0) (w : List X) (e : X) → All P (w ++ e ∷ []) → All P w × P e
+all_split P w e h = All-pop P (w ++ e ∷ []) w (Some e) refl h
 
-rising_as : (d d' : ℕ → ℕ) (w : List Visit) → AllByRecursion (λ e. d' e.node ≡ d e.node) w → Rising d w → Rising d' w
+rising_as : (d d' : ℕ → ℕ) (w : List Visit) → All (λ e. d' e.node ≡ d e.node) w → Rising d w → Rising d' w
 rising_as d d' [] same r = tt
-rising_as d d' (e ∷ w) same r = (all_both _ _ (λ f p le. omega (arith, p, le, same.0)) w same.1 r.0, rising_as d d' w same.1 r.1)
+rising_as d d' (e ∷ w) same r =
+    let first = All-head (λ f. d' f.node ≡ d f.node) e w same in
+    let rest = All-tail (λ f. d' f.node ≡ d f.node) e w same in
+    (all_both (λ f. d' f.node ≡ d f.node) (λ f. d e.node ≤ d f.node) (λ f. d' e.node ≤ d' f.node) (λ f p le. omega (arith, p, le, first)) w rest r.0, rising_as d d' w rest r.1)
 
-rising_push : (d : ℕ → ℕ) (w : List Visit) (e : Visit) → Rising d w → AllByRecursion (λ f. d f.node ≤ d e.node) w → Rising d (w ++ e ∷ [])
-rising_push d [] e r le = (tt, tt)
-rising_push d (f ∷ w) e r le = (All-push (λ g. d f.node ≤ d g.node) w e r.0 le.0, rising_push d w e r.1 le.1)
+rising_push : (d : ℕ → ℕ) (w : List Visit) (e : Visit) → Rising d w → All (λ f. d f.node ≤ d e.node) w → Rising d (w ++ e ∷ [])
+rising_push d [] e r le = (All-nil _, tt)
+rising_push d (f ∷ w) e r le =
+    (All-push (λ g. d f.node ≤ d g.node) w e r.0 (All-head (λ g. d g.node ≤ d e.node) f w le), rising_push d w e r.1 (All-tail (λ g. d g.node ≤ d e.node) f w le))
 
 -- at first every depth is 0
 unlabeled : (n v : ℕ) → slice_index_or (replicate n no_label) v no_label ≡ no_label
@@ -53,6 +55,7 @@ module _ (N : LimitedNet) (x : List ℕ) where
   begins : (most : ℕ) (aim : Goal) → 0 < most → Met N x aim (begun most) (record { node = 0; arc = 0 } ∷ [])
   begins most aim some =
       let o = outside_alone 63 in
+      let start : Visit = record { node = 0; arc = 0 } in
       record {
         tree = record {
           came_long = refl;
@@ -65,11 +68,11 @@ module _ (N : LimitedNet) (x : List ℕ) where
           low = λ v h. omega (arith, flat most v, o);
           led = λ v h nz. absurd (nz (alone v h));
         };
-        waits = ((refl, λ nz. absurd (nz refl)), tt);
-        followed = λ k u l h sp none far. absurd (none.0 (sym (alone u h)));
+        waits = All-cons (Waits N x (begun most)) start [] (refl, λ nz. absurd (nz refl)) (All-nil (Waits N x (begun most)));
+        followed = λ k u l h sp none far. absurd (All-head (λ e. e.node ≢ u) start [] none (sym (alone u h)));
         once = omega (arith, o);
-        rising = (tt, tt);
-        near = (λ v h. omega (arith, flat most v), tt);
+        rising = (All-nil (λ f. depth_at (begun most) 0 ≤ depth_at (begun most) f.node), tt);
+        near = let near0 : Near (begun most) 0 = λ v h. omega (arith, flat most v) in All-cons (λ e. Near (begun most) e.node) start [] near0 (All-nil (λ e. Near (begun most) e.node));
       }
 
   -- the first visit leaves the line, and its arc is written down
@@ -77,8 +80,11 @@ module _ (N : LimitedNet) (x : List ℕ) where
     m : Met N x aim s (e ∷ w)
     m = subst (Met N x aim s) first before
 
+    here : Waits N x s e
+    here = All-head (Waits N x s) e w m.waits
+
     pub first_in : e.node < 64
-    first_in = m.tree.below e.node m.waits.0.0
+    first_in = m.tree.below e.node here.0
 
     tree_noted : Tree N x (noted s e) w
     tree_noted =
@@ -94,8 +100,8 @@ module _ (N : LimitedNet) (x : List ℕ) where
           most = t.most;
           low = t.low;
           led = λ v h nz. elim (cases_eq v e.node) [
-            | inl q ↦ rw q (e.arc, m.waits.0.1 (λ z. nz (q ∙ z)), λ none. rw get_or-set_same)
-            | inr ne ↦ let d = t.led v h nz in (d.0, d.1, λ none. rw get_or-set_other (d.2 (λ q. ne (sym q), none)))
+            | inl q ↦ rw q (e.arc, here.1 (λ z. nz (q ∙ z)), λ none. rw get_or-set_same)
+            | inr ne ↦ let d = t.led v h nz in (d.0, d.1, λ none. rw get_or-set_other (d.2 (All-cons (λ f. f.node ≢ v) e w (λ q. ne (sym q)) none)))
           ];
         }
 
@@ -104,16 +110,16 @@ module _ (N : LimitedNet) (x : List ℕ) where
     called on =
         record {
           tree = tree_noted;
-          here = m.waits.0.0;
-          waits = m.waits.1;
+          here = here.0;
+          waits = All-tail (Waits N x s) e w m.waits;
           followed = λ k u l h sp none early. elim (cases_eq e.node u) [
             | inl q ↦ absurd (omega (arith, early (sym q)))
-            | inr ne ↦ m.followed k u l h sp (ne, none) (λ y z. absurd (on y z))
+            | inr ne ↦ m.followed k u l h sp (All-cons (λ f. f.node ≢ u) e w ne none) (λ y z. absurd (on y z))
           ];
           once = omega (arith, m.once);
           rising = m.rising.1;
           later = m.rising.0;
-          near = m.near.0;
+          near = All-head (λ f. Near s f.node) e w m.near;
         }
 
     -- or not, since node 1 was reached
@@ -121,14 +127,14 @@ module _ (N : LimitedNet) (x : List ℕ) where
     stopped y z =
         record {
           tree = tree_noted;
-          waits = m.waits.1;
+          waits = All-tail (Waits N x s) e w m.waits;
           followed = λ k u l h sp none far. elim (cases_eq e.node u) [
-            | inl q ↦ absurd (omega (arith, far y z, m.near.0 1 z, ap (depth_at s) q))
-            | inr ne ↦ m.followed k u l h sp (ne, none) far
+            | inl q ↦ absurd (omega (arith, far y z, All-head (λ f. Near s f.node) e w m.near 1 z, ap (depth_at s) q))
+            | inr ne ↦ m.followed k u l h sp (All-cons (λ f. f.node ≢ u) e w ne none) far
           ];
           once = omega (arith, m.once);
           rising = m.rising.1;
-          near = m.near.1;
+          near = All-tail (λ f. Near s f.node) e w m.near;
         }
 
   -- the arc j leads nowhere new
@@ -160,7 +166,7 @@ module _ (N : LimitedNet) (x : List ℕ) where
         followed = λ k u l h sp none far. t.followed k u l h sp none (λ _. l);
         once = omega (arith, t.once);
         rising = t.rising;
-        near = All-weaker _ _ (λ e le v r. omega (arith, t.near v r)) w t.later;
+        near = All-weaker (λ e. depth_at s n ≤ depth_at s e.node) (λ e. Near s e.node) (λ e le v r. omega (arith, t.near v r)) w t.later;
       }
 
   -- the far end h of the arc j is reached, and waits
@@ -291,24 +297,24 @@ module _ (N : LimitedNet) (x : List ℕ) where
           most = λ v r. elim (which v r) [ inl e ↦ rw e (omega (arith, new_room, zero_room, o.most n t.here)) | inr (ne, q) ↦ omega (arith, same_room v ne, zero_room, o.most v q) ];
           low = λ v r. elim (which v r) [ inl e ↦ rw e (omega (arith, new_depth, fewer, o.low n t.here)) | inr (ne, q) ↦ omega (arith, same_depth v ne, fewer, o.low v q) ];
           led = λ v r nz. elim (which v r) [
-            | inl e ↦ rw e (j, led_new, λ none. absurd ((all_split _ w visit none).1 visit_node))
-            | inr (ne, q) ↦ let d = o.led v q nz in (d.0, led_old v d.0 ne d.1, λ none. ap (λ (c : List ℕ). get_or c v 0) came_kept ∙ d.2 (all_split _ w visit none).0)
+            | inl e ↦ rw e (j, led_new, λ none. absurd ((all_split (λ f. f.node ≢ h) w visit none).1 visit_node))
+            | inr (ne, q) ↦ let d = o.led v q nz in (d.0, led_old v d.0 ne d.1, λ none. ap (λ (c : List ℕ). get_or c v 0) came_kept ∙ d.2 (all_split (λ f. f.node ≢ v) w visit none).0)
           ];
         }
 
     joined' : Turn N x after (w ++ visit ∷ []) n (j + 1)
     joined' =
-        let same_w : AllByRecursion (λ e. depth_at after e.node ≡ depth_at s e.node) w = All-weaker (Waits N x s) _ (λ e r. same_depth e.node (old e.node r.0)) w t.waits in
+        let same_w : All (λ e. depth_at after e.node ≡ depth_at s e.node) w = All-weaker (Waits N x s) _ (λ e r. same_depth e.node (old e.node r.0)) w t.waits in
         let new-at : depth_at after visit.node ≡ depth_at s n + 1 = ap (depth_at after) visit_node ∙ new_depth in
         record {
           tree = tree;
           here = kept n t.here;
-          waits = All-push (Waits N x after) w visit (All-weaker (Waits N x s) _ (λ e r. (kept e.node r.0, λ nz. led_old e.node e.arc (old e.node r.0) (r.1 nz))) w t.waits)
+          waits = All-push (Waits N x after) w visit (All-weaker (Waits N x s) (Waits N x after) (λ e r. (kept e.node r.0, λ nz. led_old e.node e.arc (old e.node r.0) (r.1 nz))) w t.waits)
               (ap (has after) visit_node ∙ new, λ nz. visit_led);
           followed = λ k u lk r spk none early. elim (which u r) [
-            | inl e ↦ absurd ((all_split _ w visit none).1 (visit_node ∙ sym e))
+            | inl e ↦ absurd ((all_split (λ f. f.node ≢ u) w visit none).1 (visit_node ∙ sym e))
             | inr (ne, q) ↦
-                let none' = (all_split _ w visit none).0 in
+                let none' = (all_split (λ f. f.node ≢ u) w visit none).0 in
                 elim (cases_eq k j) [
                   | inl e ↦ elim (cases_eq u n) [
                     | inl f ↦ at_new k u e f
@@ -319,8 +325,8 @@ module _ (N : LimitedNet) (x : List ℕ) where
           ];
           once = omega (arith, length_push w visit, t.once, fewer);
           rising = rising_push (depth_at after) w visit (rising_as (depth_at s) (depth_at after) w same_w t.rising)
-              (all_both (λ e. depth_at after e.node ≡ depth_at s e.node) (Waits N x s) (λ e p r. omega (arith, p, new-at, t.near e.node r.0)) w same_w t.waits);
-          later = All-push (λ e. depth_at after n ≤ depth_at after e.node) w visit (all_both _ _ (λ e p le. omega (arith, p, le, dn)) w same_w t.later) (omega (arith, dn, new-at));
+              (all_both (λ e. depth_at after e.node ≡ depth_at s e.node) (Waits N x s) (λ e. depth_at after e.node ≤ depth_at after visit.node) (λ e p r. omega (arith, p, new-at, t.near e.node r.0)) w same_w t.waits);
+          later = All-push (λ e. depth_at after n ≤ depth_at after e.node) w visit (all_both (λ e. depth_at after e.node ≡ depth_at s e.node) (λ e. depth_at s n ≤ depth_at s e.node) (λ e. depth_at after n ≤ depth_at after e.node) (λ e p le. omega (arith, p, le, dn)) w same_w t.later) (omega (arith, dn, new-at));
           near = λ v r. elim (which v r) [ inl e ↦ rw e (omega (arith, new_depth, dn)) | inr (ne, q) ↦ omega (arith, same_depth v ne, dn, t.near v q) ];
         }
 
@@ -354,7 +360,7 @@ module _ (N : LimitedNet) (x : List ℕ) where
     nearer zero v lt z = rw z (end.tree.source, omega (arith, end.tree.root))
     nearer (suc n) v lt (k, u, l, sp, e, way) =
         let i = nearer n u (omega arith) way in
-        let b = end.followed k u l i.0 sp tt (λ _ _. omega (arith, i.1)) in
+        let b = end.followed k u l i.0 sp (All-nil _) (λ _ _. omega (arith, i.1)) in
         rw (sym e) (b.0, omega (arith, b.1, i.1))
 
     least : (n : ℕ) → Route N.limit.value arcs x n 1 → depth_at s 1 ≤ n
@@ -367,7 +373,7 @@ module _ (N : LimitedNet) (x : List ℕ) where
           tree = t;
           leads = λ v h. leads s [] t (depth_at s v) v refl h;
           nearest = λ h. record { leads = leads s [] t (depth_at s 1) 1 refl h; least = least };
-          closed = λ on k u l h sp. (end.followed k u l h sp tt (λ y z. absurd (both_ways _ (on y) z))).0;
+          closed = λ on k u l h sp. (end.followed k u l h sp (All-nil _) (λ y z. absurd (both_ways _ (on y) z))).0;
         }
 
 -- the same of what the code holds

@@ -1,32 +1,20 @@
 -- A set of nodes as the bits of a number.
-use Rattle.std.proofs.Common.{◌≡◌, ℕ, zero, suc, ◌+◌, ◌-◌, ◌/◌, ◌%◌, ◌^◌, ◌<◌, ◌≤◌, max, true, false, ◌||◌, eqb, ◌≢◌, ◌⊎◌, sym, refl, ap, ◌∙◌, inl, inr, arith, pow_mono}
-use lib.Bits.{bit_or, or_shr, or_step}
-use lib.Pow.{pow-lt}
+use Rattle.std.proofs.Common.{◌≡◌, ℕ, zero, suc, ◌^◌, ◌<◌, ◌≤◌, true, false, ◌||◌, eqb, ◌≢◌, ◌⊎◌, sym, refl, ap, ◌∙◌, inl, inr, arith}
+use lib.Bits.{bit_or}
 use Rattle.std.proofs.lemmas.Bool.Decides.{nat_tests}
-use Rattle.std.proofs.lemmas.Bool.{cases_order, cases_eq, eqb-true}
-use Rattle.std.proofs.lemmas.Nat.{div_below, pow_pos, pow-add, shl-shr}
+use Rattle.std.proofs.lemmas.Bool.{cases_eq, eqb-true}
+use Rattle.std.proofs.lemmas.Nat.Bits.{bit_at_or, bit_at-lt, bit_at-pow_same, bit_at-pow_other}
 use Rattle.flows.specs.Flows.{inside}
 use Rattle.path_engine.specs.Searches.{outside}
 
-inside_below : (n s v : ℕ) → s < 2 ^ n → n ≤ v → inside s v ≡ false
-inside_below n s v h l = let z = div_below s (2 ^ v) 1 (pow_pos v) (omega (arith, pow_mono l)) in grind (arith, nat_tests)
-
-or_odd : (a b : ℕ) → bit_or a b % 2 ≡ max (a % 2) (b % 2)
-or_odd a b = omega (arith, or_step a b)
-
 inside_or : (s t v : ℕ) → inside (bit_or s t) v ≡ (inside s v || inside t v)
-inside_or s t v = rw (or_shr s t v) (rw or_odd (grind (arith, nat_tests)))
+inside_or s t v = rw (bit_at_or s t v) (let a = bit_at-lt s v in let b = bit_at-lt t v in grind (arith, nat_tests))
 
 single : (u v : ℕ) → inside (2 ^ u) v ≡ eqb u v
 single u v =
-    elim (cases_order u v) [
-      | inl e ↦ rw e (let z = shl-shr 1 v in grind (arith, nat_tests))
-      | inr (inl l) ↦ let z = inside_below v (2 ^ u) v (pow-lt l) (omega arith) in grind (arith, nat_tests)
-      | inr (inr l) ↦
-          let sum : u ≡ suc (u - v - 1) + v = omega arith in
-          let z = ap (λ n. 2 ^ n / 2 ^ v) sum ∙ ap (λ n. n / 2 ^ v) (pow-add 2 (suc (u - v - 1)) v) ∙ shl-shr (2 ^ suc (u - v - 1)) v in
-          let even : 2 ^ u / 2 ^ v % 2 ≡ 0 = omega arith in
-          grind (arith, nat_tests)
+    elim (cases_eq v u) [
+      | inl e ↦ rw e (let z = bit_at-pow_same u in grind (arith, nat_tests))
+      | inr ne ↦ let z = bit_at-pow_other u v ne in grind (arith, nat_tests)
     ]
 
 -- the set of node 0 alone

@@ -1,6 +1,7 @@
 -- What one arc of a walk back from node 1 leaves.
 use Rattle.std.proofs.Common.{◌≡◌, ℕ, ◌+◌, ◌-◌, ◌^◌, ◌<◌, ◌≤◌, true, cond, eqb, ◌≢◌, ◌⊎◌, List, [], length, get_or, set, sym, refl, ap, ◌∙◌, subst, inl, inr, arith, length-set, get_or-set_other}
 use Rattle.std.proofs.lemmas.Bool.{cases_eq}
+use Rattle.std.proofs.lemmas.List.Elements.{All-nil}
 use Rattle.std.proofs.lemmas.Bool.Decides.{nat_tests}
 use Rattle.flows.specs.declared.Arc.{Arc}
 use Rattle.flows.specs.Sums.{only}
@@ -10,8 +11,8 @@ use Rattle.network.specs.Runs.{ZeroAfter}
 use Rattle.network.proofs.Facts.{at_most, from_source}
 use Rattle.path_engine.specs.declared.steps.LimitedNet.{LimitedNet}
 use Rattle.path_engine.specs.declared.search.Search.{Search}
-use Rattle.path_engine.specs.Residual.{end_at, Shortest, changed}
-use Rattle.path_engine.specs.Searches.{arcs_in, residual_in, has, depth_at, room_at, Led, Tree, Searched, Carries, Grown, passed}
+use Rattle.path_engine.specs.Residual.{end_at, changed}
+use Rattle.path_engine.specs.Searches.{arcs_in, residual_in, has, depth_at, room_at, Led, Tree, Carries, Grown, passed}
 use Rattle.path_engine.proofs.Arcs.{small_at, other, ways}
 use Rattle.flows.proofs.Places.{sum_more, sum_less, each_set}
 use Rattle.path_engine.proofs.Places.{unchanged, changed_set}
@@ -38,10 +39,10 @@ module _ (N : LimitedNet) (x : List ℕ) (s : Search) where
       ]
 
   -- the arc that a node was reached by, as the code reads it
-  pub led_as : (v : ℕ) → Tree N x s [] → has s v ≡ true → v ≢ 0 → Came v (get_or s.came v 0) (end_at arcs (get_or s.came v 0) v)
+  led_as : (v : ℕ) → Tree N x s [] → has s v ≡ true → v ≢ 0 → Came v (get_or s.came v 0) (end_at arcs (get_or s.came v 0) v)
   led_as v t h nz =
       let d = t.led v h nz in
-      let e = subst (λ (k : ℕ). Came v k d.1.0) (sym (d.2 tt)) d.1.1 in
+      let e = subst (λ (k : ℕ). Came v k d.1.0) (sym (d.2 (All-nil _))) d.1.1 in
       subst (λ (u : ℕ). Came v (get_or s.came v 0) u) (sym e.there) e
 
   -- y is x with m more from v to node 1, by the arcs that lie deeper than v
@@ -71,7 +72,16 @@ module _ (N : LimitedNet) (x : List ℕ) (s : Search) where
       }
 
   -- one arc back: what is passed along k to v comes from u
-  module _ (m : ℕ) (y : List ℕ) (v k u : ℕ) (d : Came v k u) (i : Walk m y v) where
+  module _ (m : ℕ) (y : List ℕ) (v : ℕ) (t : Tree N x s []) (i : Walk m y v) (apart : v ≢ 0) where
+    abbrev k : ℕ
+    k = get_or s.came v 0
+
+    abbrev u : ℕ
+    u = end_at arcs k v
+
+    d : Came v k u
+    d = led_as v t i.here apart
+
     same_there : get_or y k 0 ≡ get_or x k 0
     same_there = i.fresh v k u d (omega arith)
 
@@ -140,8 +150,3 @@ module _ (N : LimitedNet) (x : List ℕ) (s : Search) where
           };
           more = omega (arith, level 0, none x, none y);
         }
-
-    pub as_deep : {aim : _} → Searched N x aim s → has s 1 ≡ true → Shortest L arcs x 1 (changed x y (length arcs))
-    as_deep r found =
-        let deep : changed x y (length arcs) ≡ depth_at s 1 = omega (arith, i.spent, r.tree.root, ap (depth_at s) e) in
-        rw deep (r.nearest found)

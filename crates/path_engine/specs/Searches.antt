@@ -1,7 +1,7 @@
 -- What holds while a search runs and while more is sent: N is a network under a limit, x what each of
 -- its arcs carries, and w the visits that wait in line.
 use Rattle.std.specs.Prelude.{◌≡◌, ℕ, zero, suc, ◌+◌, ◌-◌, ◌^◌, ◌<◌, ◌≤◌, min, Bool, true, false, cond, ◌≢◌, List, [], ◌∷◌, length, replicate, ◌==◌, bit_or, slice_index, slice_index_or, slice_set}
-use Rattle.std.specs.List.{AllByRecursion}
+use Rattle.std.specs.List.{All}
 use Rattle.flows.specs.declared.Arc.{Arc}
 use Rattle.flows.specs.Flows.{IsFlow, inside, size}
 use Rattle.network.specs.Nets.{arcs_of}
@@ -64,7 +64,7 @@ LedTo N x s v k = (u : ℕ) × Led N x (has s) (depth_at s) (room_at s) v k u
 
 -- no visit of a line is to v
 abbrev pub NoneTo : ℕ → List Visit → Type 0
-NoneTo v w = AllByRecursion (λ e. e.node ≢ v) w
+NoneTo v w = All (λ e. e.node ≢ v) w
 
 -- an arc led to each node that was reached, and more can go there; if the node does not wait, the
 -- arc is written down
@@ -90,7 +90,7 @@ Waits N x s e = (has s e.node ≡ true) × (e.node ≢ 0 → LedTo N x s e.node 
 -- no visit is to a node nearer than one before it
 abbrev pub Rising : (ℕ → ℕ) → List Visit → Type 0
 Rising d [] = Unit {0}
-Rising d (e ∷ w) = AllByRecursion (λ f. d e.node ≤ d f.node) w × Rising d w
+Rising d (e ∷ w) = All (λ f. d e.node ≤ d f.node) w × Rising d w
 
 -- no node that was reached lies more than one arc further than u
 abbrev pub Near : Search → ℕ → Type 0
@@ -100,21 +100,21 @@ Near s u = (v : ℕ) → has s v ≡ true → depth_at s v ≤ depth_at s u + 1
 -- stops at node 1, of those among them that lie more than one arc before it
 pub record Met (N : LimitedNet) (x : List ℕ) (aim : Goal) (s : Search) (w : List Visit) : Type 0 where
   pub tree : Tree N x s w
-  pub waits : AllByRecursion (Waits N x s) w
+  pub waits : All (Waits N x s) w
   pub followed : (k u : ℕ) → k < length (arcs_in N) → has s u ≡ true → 0 < residual_in N x k u → NoneTo u w → (aim ≡ Sink → has s 1 ≡ true → depth_at s u + 1 < depth_at s 1) → Beside s u (end_at (arcs_in N) k u)
   pub once : length w + outside (has s) 64 ≤ 64
   pub rising : Rising (depth_at s) w
-  pub near : AllByRecursion (λ e. Near s e.node) w
+  pub near : All (λ e. Near s e.node) w
 
 -- while the node n is expanded: of its arcs those before j were followed
 pub record Turn (N : LimitedNet) (x : List ℕ) (s : Search) (w : List Visit) (n j : ℕ) : Type 0 where
   pub tree : Tree N x s w
   pub here : has s n ≡ true
-  pub waits : AllByRecursion (Waits N x s) w
+  pub waits : All (Waits N x s) w
   pub followed : (k u : ℕ) → k < length (arcs_in N) → has s u ≡ true → 0 < residual_in N x k u → NoneTo u w → (u ≡ n → k < j) → Beside s u (end_at (arcs_in N) k u)
   pub once : length w + outside (has s) 64 < 64
   pub rising : Rising (depth_at s) w
-  pub later : AllByRecursion (λ e. depth_at s n ≤ depth_at s e.node) w
+  pub later : All (λ e. depth_at s n ≤ depth_at s e.node) w
   pub near : Near s n
 
 -- what a search found: so many residual arcs lead to a node as it is deep, to node 1 no fewer, and

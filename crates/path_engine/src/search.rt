@@ -2,7 +2,7 @@
 ghost use Rattle.std.specs.Prelude.{◌≡◌, ◌<◌, ◌≤◌, ◌↔◌, true, [], ◌∷◌, ◌++◌, length, IsTrue};
 ghost use Rattle.path_engine.specs.Searches.{arcs_in, has, depth_at, room_at, effort, Turn, Searched, begun, discovered};
 
-use crate::steps::{LimitedNet, Step, step_from};
+use crate::steps::{LimitedNet, Step};
 use line::{NodeLine, Visit};
 use network::Side;
 
@@ -92,7 +92,7 @@ impl Search {
     {
         let arcs = net.arcs();
         for (k, arc) in arcs.iter().enumerate() {
-            let step = step_from(*arc, flow[k], net.limit, node);
+            let step = net.step_from(*arc, flow[k], node);
             if step.residual > 0 && !self.reached.holds(step.to) {
                 self.discover(line, node, step, k as u8);
             }

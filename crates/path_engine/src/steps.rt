@@ -6,22 +6,6 @@ ghost use Rattle.path_engine.specs.Searches.{arcs_in};
 use flows::Arc;
 use network::{Amount, Network};
 
-/// A network under a limit.
-#[derive(Clone, Copy)]
-pub(crate) struct LimitedNet<'a> {
-    pub(crate) net: &'a Network,
-    pub(crate) limit: Amount,
-}
-
-impl<'a> LimitedNet<'a> {
-    /// The arcs, in the order in which they were given.
-    pub(crate) fn arcs(self) -> &'a [Arc]
-        ensures { result.now ≡ arcs_in self.entry }
-    {
-        self.net.arcs()
-    }
-}
-
 /// The other end of an arc that ends at a node.
 pub fn far_end(arc: Arc, node: u8) -> u8
     ensures { result ≡ far_end arc node }
@@ -49,13 +33,29 @@ pub(crate) struct Step {
     pub(crate) residual: u32,
 }
 
-/// The step that an arc which carries so much allows from a node.
-pub(crate) fn step_from(arc: Arc, carried: u32, limit: Amount, node: u8) -> Step
-    ensures to { result.to ≡ far_end arc node }
-    ensures residual { result.residual ≡ residual_of limit.value arc carried node }
-{
-    Step {
-        to: far_end(arc, node),
-        residual: residual_from(arc, carried, limit, node),
+/// A network under a limit.
+#[derive(Clone, Copy)]
+pub(crate) struct LimitedNet<'a> {
+    pub(crate) net: &'a Network,
+    pub(crate) limit: Amount,
+}
+
+impl<'a> LimitedNet<'a> {
+    /// The arcs, in the order in which they were given.
+    pub(crate) fn arcs(self) -> &'a [Arc]
+        ensures { result.now ≡ arcs_in self.entry }
+    {
+        self.net.arcs()
+    }
+
+    /// The step that an arc which carries so much allows from a node.
+    pub(crate) fn step_from(self, arc: Arc, carried: u32, node: u8) -> Step
+        ensures to { result.to ≡ far_end arc node }
+        ensures residual { result.residual ≡ residual_of self.entry.limit.value arc carried node }
+    {
+        Step {
+            to: far_end(arc, node),
+            residual: residual_from(arc, carried, self.limit, node),
+        }
     }
 }

@@ -1,20 +1,7 @@
-use Rattle.std.proofs.Common.{◌≡◌, length, sym, ◌∙◌, arith}
-use Rattle.path_engine.specs.Searches.{arcs_in}
-use Rattle.path_engine.proofs.Arcs.{end_few}
+use Rattle.std.proofs.Common.{sym, ◌∙◌, arith}
 use Rattle.path_engine.proofs.Searches.{skipped_as, joined_as}
 use Rattle.path_engine.proofs.search.Search.expand.Goals as goal
 use Rattle.path_engine.proofs.search.Search.expand.Goals.{then-step-gt0+then-not-holds, else-step-gt0, else-step-gt0-via-then-step-gt0+else-not-holds, else-step-gt0-via-else-step-gt0}
-
-pub discover-requires : goal.discover-requires
-discover-requires c =
-    let t = c.loop-k.invariant.0 in
-    let l = rw c.arcs-arcs.ensures at c.loop-k-test.true in
-    let to_is = rw c.arcs-arcs.ensures at c.step_from-step.ensures.to in
-    record {
-      nodes = (t.tree.below c.args.node t.here, omega (arith, to_is, end_few c.args.net.net.now c.loop-k.k l c.args.node));
-      low = omega (arith, t.tree.low c.args.node t.here);
-      places = omega (arith, t.once);
-    }
 
 pub loop-k-preserved : goal.loop-k-preserved
 loop-k-preserved c =
@@ -37,9 +24,3 @@ loop-k-preserved c =
           ]) in
           (next.0, next.1 ∙ i.1, omega (arith, next.2, i.2))
     ]
-
-pub returns : goal.returns
-returns c =
-    let i = c.loop-k.invariant in
-    let all : c.loop-k.k ≡ length (arcs_in c.args.net) = rw (← c.arcs-arcs.ensures) (omega arith) in
-    record { turn = rw (← all) i.0; most = i.1; fewer = i.2 }

@@ -2,16 +2,13 @@ use Rattle.std.proofs.Common.{[], ◌∷◌, ◌++◌, List, refl, ap, ◌∙◌
 use Rattle.line.specs.declared.node.Visit.{Visit}
 use Rattle.path_engine.specs.declared.search.Search.{Search}
 use Rattle.path_engine.specs.Searches.{room_at}
-use Rattle.path_engine.proofs.Searches.{begins_as, first_in, called, stopped, ended, done}
+use Rattle.path_engine.proofs.Searches.{begins_as, called, stopped, ended, done}
 use Rattle.path_engine.proofs.search.Search.run.Goals as goal
 
 pub loop-visit-init : goal.loop-visit-init
 loop-visit-init c =
     let queued = c.push.ensures ∙ ap (λ (w : List Visit). w ++ record { node = 0; arc = 0 } ∷ []) c.new-line.ensures in
     (begins_as _ _ c.args.most _ _ _ c.requires c.begin-search.ensures queued, ap (λ (s : Search). room_at s 0) c.begin-search.ensures)
-
-pub bounds-search-visit : goal.bounds-search-visit
-bounds-search-visit c = first_in _ _ _ _ _ _ _ c.in-Some.ensures c.loop-visit.invariant.0
 
 pub expand-requires : goal.expand-requires
 expand-requires c = called _ _ _ _ _ _ _ c.in-Some.ensures c.loop-visit.invariant.0 (λ y z. let both = c.if-not-stops.ensures.1 (y, z) in cc)
@@ -25,7 +22,5 @@ loop-visit-preserved c =
     let over = c.if-not-stops.ensures.0 refl in
     (stopped _ _ _ _ _ _ _ c.in-Some.ensures i.0 over.0 over.1, i.1)
 
-pub returns : goal.returns
-returns c =
-    let i = c.loop-visit.invariant in
-    record { searched = done _ _ _ _ _ c.in_default.ensures.0 i.0; most = i.1 }
+pub returns-clause-searched : goal.returns-clause-searched
+returns-clause-searched c = done _ _ _ _ _ c.in_default.ensures.0 c.loop-visit.invariant.0
