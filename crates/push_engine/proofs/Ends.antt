@@ -1,22 +1,20 @@
 -- How a run begins and ends.
-use Rattle.std.proofs.Common.{◌≡◌, ℕ, ◌+◌, ◌*◌, ◌<◌, ◌≤◌, Bool, true, false, eqb, ltb, ◌≢◌, List, length, get_or, set, replicate, sym, refl, ap, ◌∙◌, subst, inl, inr, arith, length-set, get_or-set_other, get_or-set_same}
-use Rattle.std.proofs.lemmas.List.{get_or-take, length-take}
+use Rattle.std.proofs.Common.{◌≡◌, ℕ, ◌+◌, ◌*◌, ◌<◌, ◌≤◌, Bool, true, false, eqb, ltb, ◌≢◌, List, length, get_or, set, replicate, refl, ap, ◌∙◌, subst, inl, inr, arith, length-set, get_or-set_other, get_or-set_same}
 use Rattle.std.proofs.lemmas.Bool.{cases_eq, cases_lt, false_from_ne_true, lt-ltb, ltb-true}
 use Rattle.std.proofs.lemmas.Bool.Decides.{nat_tests}
 use Rattle.flows.specs.declared.Arc.{Arc}
 use Rattle.flows.specs.Sums.{only}
-use Rattle.flows.specs.Flows.{no_arc, arc_at, sum_flow, inside, size, IsFlow}
+use Rattle.flows.specs.Flows.{arc_at, sum_flow, inside, size, IsFlow}
 use Rattle.flows.proofs.Places.{zeros}
 use Rattle.flows.proofs.Sums.{sum_none}
 use Rattle.network.specs.declared.nets.Network.{Network}
 use Rattle.network.specs.Nets.{arcs_of}
-use Rattle.network.specs.Rules.{CountsOk, ArcsOk}
 use Rattle.network.specs.Runs.{Reaches, FallsShort, ZeroAfter}
 use Rattle.push_engine.specs.declared.preflow.Task.{Task}
 use Rattle.push_engine.specs.declared.preflow.Preflow.{Preflow}
 use Rattle.path_engine.specs.Residual.{Innermost}
 use Rattle.path_engine.proofs.Closed.{falls_short}
-use Rattle.push_engine.specs.Preflows.{ceiling, limit_of, wanted_of, supply, Load, Labels, Holds, pending, fresh}
+use Rattle.push_engine.specs.Preflows.{ceiling, wanted_of, supply, Load, Labels, Holds, pending, fresh}
 use Rattle.push_engine.specs.Moves.{Settled}
 use Rattle.push_engine.proofs.Sums.{weigh_set}
 use Rattle.push_engine.proofs.Pushes.{ends_at}
@@ -77,15 +75,6 @@ started t p is =
       begins t (replicate 256 0) (replicate 64 0) (replicate 64 0) refl refl refl (zeros 256) (zeros 64) (zeros 64),
       only_source t (replicate 256 0) (replicate 64 0) (replicate 64 0) refl refl refl (zeros 256) (zeros 64) (zeros 64),
     )
-
--- nodes and arcs of a network are those of a task
-module _ (net : Network) (n : ℕ) (arcs : List Arc) (nodes : n ≡ net.nodes) (is : arcs ≡ arcs_of net) where
-  pub counts_of : CountsOk n (length arcs)
-  counts_of = rw (nodes, is) (net.counts.0, net.counts.1, omega (arith, net.counts.2, length-take net.count net.table))
-
-  pub rules_of : ArcsOk n (length arcs) arcs
-  rules_of =
-      rw (nodes, is) (λ k h. let m : k < net.count = omega (arith, length-take net.count net.table) in rw (get_or-take net.count net.table k no_arc m) (net.rules k m))
 
 -- at the end
 at_ceiling : (p : Preflow) (v : ℕ) → pending p v ≡ false → v ≢ 1 → v < p.task.nodes → 0 < get_or p.excess v 0 → ceiling p.task.nodes v ≤ get_or p.heights v 0

@@ -32,8 +32,11 @@ empty p v h = grind (arith, nat_tests)
 far_apart : (n : ℕ) (a : Arc) (v : ℕ) → Ends n a → far_end a v ≢ v
 far_apart n a v e q = let ne = e.apart in grind (arith, nat_tests)
 
-pub raised_other : (p : Preflow) (v h u : ℕ) → u ≢ v → pending (raised p v h) u ≡ pending p u
+raised_other : (p : Preflow) (v h u : ℕ) → u ≢ v → pending (raised p v h) u ≡ pending p u
 raised_other p v h u ne = rw get_or-set_other refl
+
+pub raised_but : (p : Preflow) (v h : ℕ) (w : List ℕ) → QueuedBut p v w → QueuedBut (raised p v h) v w
+raised_but p v h w b = quiet (pending p) v w b (pending (raised p v h)) (raised_other p v h)
 
 -- the amount m leaves v by the arc k
 module _ (p q : Preflow) (v k m to : ℕ) (i : Holds p) (v-in : v < p.task.nodes) (k-in : k < length p.task.arcs.now) (le : m ≤ get_or p.excess v 0)

@@ -1,6 +1,6 @@
-use Rattle.std.proofs.Common.{◌≡◌, sym, ◌∙◌, inl, inr, arith}
+use Rattle.std.proofs.Common.{sym, ◌∙◌, inl, inr, arith}
 use Rattle.line.specs.Waiting.{waiting}
-use Rattle.push_engine.specs.Preflows.{pending, pushable}
+use Rattle.push_engine.specs.Preflows.{pending}
 use Rattle.push_engine.proofs.Queues.{free_idle}
 use Rattle.push_engine.proofs.Pending.{pends, past, to_in, push_quiet, push_joins}
 use Rattle.push_engine.proofs.Rounds.{pushed}
