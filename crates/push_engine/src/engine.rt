@@ -24,7 +24,7 @@ fn solve(net: &Network, limit: Amount, wanted: Amount, flow: &mut [u32; 256]) ->
     };
     let preflow = Preflow::new(task).settle();
     *flow = preflow.flow;
-    if preflow.excess[0] == 0 {
+    if preflow.excess(0) == 0 {
         return Answer::Reached;
     }
     Answer::Short {

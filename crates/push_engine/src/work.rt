@@ -32,7 +32,7 @@ impl Work<'_> {
         let to = far_end(arc, node);
         let waited = preflow.is_pending(to);
         let most = residual_from(arc, preflow.flow[k], preflow.task.limit, node);
-        preflow.send(k, node, most.min(preflow.excess[node as usize]));
+        preflow.send(k, node, most.min(preflow.excess(node)));
         if !waited && preflow.is_pending(to) {
             queue.join(to);
         }
@@ -47,7 +47,7 @@ impl Work<'_> {
         ensures raised { self.new.preflow ≡ raised self.old.preflow node height }
         ensures queued { Queued self.new.preflow (waiting queue.new.line) }
     {
-        self.preflow.heights[node as usize] = height;
+        self.preflow.nodes[node as usize].height = height;
         if self.preflow.is_pending(node) {
             queue.join(node);
         }
@@ -60,18 +60,18 @@ impl Work<'_> {
         requires queued { QueuedBut self.old.preflow node (waiting queue.old.line) }
         ensures { Drained self.old.preflow node self.new.preflow (waiting queue.new.line) result }
     {
-        let height = self.preflow.heights[node as usize];
+        let height = self.preflow.height(node);
         let mut next = self.preflow.ceiling(node);
         let arcs = self.preflow.arcs();
         for (k, arc) in arcs.iter().enumerate() {
             let preflow = &self.preflow;
             if residual_from(*arc, preflow.flow[k], preflow.task.limit, node) > 0 {
-                let end = preflow.heights[far_end(*arc, node) as usize];
+                let end = preflow.height(far_end(*arc, node));
                 if end >= height {
                     next = next.min(end + 1);
                 } else {
                     self.push(queue, node, k);
-                    if self.preflow.excess[node as usize] == 0 {
+                    if self.preflow.excess(node) == 0 {
                         return None;
                     }
                 }
