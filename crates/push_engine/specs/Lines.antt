@@ -18,6 +18,11 @@ Queued p w = (u : ℕ) → tally u w ≡ only (pending p u) 1
 abbrev pub QueuedBut : Preflow → ℕ → List ℕ → Type 0
 QueuedBut p v w = (u : ℕ) → tally u w ≡ only (pending p u && not (u == v)) 1
 
+-- something is to be done at v, which was taken from the line w
+pub record Taken (p : Preflow) (v : ℕ) (w : List ℕ) : Type 0 where
+  pub waits : pending p v ≡ true
+  pub queued : QueuedBut p v w
+
 -- between two moves at v, which began with the preflow p
 pub record Working (p : Preflow) (v : ℕ) (q : Preflow) (w : List ℕ) : Type 0 where
   pub same : q.task ≡ p.task

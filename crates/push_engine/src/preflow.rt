@@ -104,7 +104,8 @@ impl<'a> Preflow<'a> {
         requires holds { Holds self.old }
         requires inside { k < length self.old.task.arcs.now }
         requires node { node < self.old.task.nodes }
-        requires fits { amount ≤ residual (limit_of self.old.task) self.old.task.arcs.now self.old.flow k node }
+        requires fits { amount
+            ≤ residual (limit_of self.old.task) self.old.task.arcs.now self.old.flow k node }
         requires waits { amount ≤ slice_index (excess_of self.old) node }
         ensures { self.new ≡ sent self.old k node amount }
     {

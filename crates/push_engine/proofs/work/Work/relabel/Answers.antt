@@ -9,18 +9,18 @@ use Rattle.push_engine.proofs.work.Work.relabel.Goals as goal
 pub invariant_of-self : goal.invariant_of-self
 invariant_of-self c =
     let p = c.args.self.now.preflow in
-    let v = pends p c.args.node c.requires.waits in
+    let v = pends p c.args.node c.requires.taken.waits in
     record { holds = (raise_steps p c.args.node c.args.height c.args.self.now.holds v.inside v.no_sink c.requires.can).holds }
 
 pub join-requires : goal.join-requires
 join-requires c =
     let p = c.args.self.now.preflow in
-    free_self (pending p) c.args.node (waiting c.args.queue.now.line) c.requires.queued 64 (past p) (omega (arith, (pends p c.args.node c.requires.waits).inside, p.task.counts.1))
+    free_self (pending p) c.args.node (waiting c.args.queue.now.line) c.requires.taken.queued 64 (past p) (omega (arith, (pends p c.args.node c.requires.taken.waits).inside, p.task.counts.1))
 
 pub returns-then-is_pending-clause-queued : goal.returns-then-is_pending-clause-queued
 returns-then-is_pending-clause-queued c =
-    back _ c.args.node (waiting c.args.queue.now.line) (raised_but c.args.self.now.preflow c.args.node c.args.height _ c.requires.queued) _ c.join.ensures (sym c.if-is_pending.ensures)
+    back _ c.args.node (waiting c.args.queue.now.line) (raised_but c.args.self.now.preflow c.args.node c.args.height _ c.requires.taken.queued) _ c.join.ensures (sym c.if-is_pending.ensures)
 
 pub returns-else-is_pending-clause-queued : goal.returns-else-is_pending-clause-queued
 returns-else-is_pending-clause-queued c =
-    rested _ c.args.node (waiting c.args.queue.now.line) (raised_but c.args.self.now.preflow c.args.node c.args.height _ c.requires.queued) (sym c.if-is_pending.ensures)
+    rested _ c.args.node (waiting c.args.queue.now.line) (raised_but c.args.self.now.preflow c.args.node c.args.height _ c.requires.taken.queued) (sym c.if-is_pending.ensures)
