@@ -65,3 +65,9 @@ module _ (f : ℕ → Bool) (v : ℕ) (w : List ℕ) (h : OnceBut f v w) where
           | inr na ↦ let t = h u in let s = same u nv na in grind (arith, nat_tests)
         ]
       ])
+
+-- the first in the line
+pub called : (f : ℕ → Bool) (v : ℕ) (l w : List ℕ) → l ≡ v ∷ w → Once f l → (f v ≡ true) × OnceBut f v w
+called f v l w y all =
+    let q : Once f (v ∷ w) = rw y at all in
+    (let t = q v in grind (arith, nat_tests), λ u. elim (cases_eq u v) [ inl e ↦ rw e (let t = q v in grind (arith, nat_tests)) | inr ne ↦ let t = q u in grind (arith, nat_tests) ])
