@@ -9,7 +9,7 @@ use Rattle.flows.proofs.Sums.{sum_balance, sum_none, sum_le, sum_change, term_le
 use Rattle.path_engine.specs.Residual.{far_end, residual_of, end_at, Closed}
 use Rattle.push_engine.specs.declared.preflow.Task.{Task}
 use Rattle.push_engine.specs.declared.preflow.Preflow.{Preflow}
-use Rattle.push_engine.specs.Preflows.{limit_of, wanted_of, supply, Steep, Holds}
+use Rattle.push_engine.specs.Preflows.{limit_of, wanted_of, excess_of, heights_of, supply, Steep, Holds}
 use Rattle.push_engine.proofs.Pushes.{ends_at, end_in}
 use Rattle.push_engine.proofs.Gaps.{IsGap, gap}
 
@@ -68,7 +68,7 @@ module _ (q : Preflow) (i : Holds q) (p : ℕ → Bool) (source : p 0 ≡ false)
   x k = get_or q.flow k 0
 
   abbrev e : ℕ → ℕ
-  e u = get_or q.excess u 0
+  e u = get_or (excess_of q) u 0
 
   balanced : (u : ℕ) → only (p u) (inflow u arcs q.flow) + 0 ≡ only (p u) (outflow u arcs q.flow) + only (p u) (e u)
   balanced u = only_balance (p u) (inflow u arcs q.flow) (supply (wanted_of q.task) u) (outflow u arcs q.flow) (e u) (i.load.balanced u) (no_source p (wanted_of q.task) u source)
@@ -88,9 +88,9 @@ module _ (q : Preflow) (i : Holds q) (p : ℕ → Bool) (source : p 0 ≡ false)
       )
 
 -- nothing waits at a node at the ceiling, but at node 0
-pub nothing_high : (q : Preflow) → Holds q → (v : ℕ) → v < q.task.nodes → 2 * q.task.nodes ≤ get_or q.heights v 0 → get_or q.excess v 0 ≡ 0
+pub nothing_high : (q : Preflow) → Holds q → (v : ℕ) → v < q.task.nodes → 2 * q.task.nodes ≤ get_or (heights_of q) v 0 → get_or (excess_of q) v 0 ≡ 0
 nothing_high q i v v-in high =
     let n = q.task.nodes in
-    let g = gap (λ u. get_or q.heights u 0) n n v v-in (omega arith) in
-    nothing_waits q i (λ u. ltb g.0 (get_or q.heights u 0)) (le-ltb g.0 (get_or q.heights 0 0) (omega (arith, g.1.from, i.labels.low 0)))
-    (above_gap q.task q.flow q.heights n g.0 i.labels.steep g.1) v v-in (lt-ltb g.0 (get_or q.heights v 0) (omega (arith, g.1.low)))
+    let g = gap (λ u. get_or (heights_of q) u 0) n n v v-in (omega arith) in
+    nothing_waits q i (λ u. ltb g.0 (get_or (heights_of q) u 0)) (le-ltb g.0 (get_or (heights_of q) 0 0) (omega (arith, g.1.from, i.labels.low 0)))
+    (above_gap q.task q.flow (heights_of q) n g.0 i.labels.steep g.1) v v-in (lt-ltb g.0 (get_or (heights_of q) v 0) (omega (arith, g.1.low)))

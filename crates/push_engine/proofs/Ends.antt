@@ -9,13 +9,12 @@ use Rattle.flows.proofs.Places.{zeros}
 use Rattle.flows.proofs.Sums.{sum_none}
 use Rattle.network.specs.declared.nets.Network.{Network}
 use Rattle.network.specs.Nets.{arcs_of}
-use Rattle.network.specs.Rules.{CountsOk, ArcsOk}
 use Rattle.network.specs.Runs.{Reaches, FallsShort, ZeroAfter}
 use Rattle.push_engine.specs.declared.preflow.Task.{Task}
 use Rattle.push_engine.specs.declared.preflow.Preflow.{Preflow}
 use Rattle.path_engine.specs.Residual.{Innermost}
 use Rattle.path_engine.proofs.Closed.{falls_short}
-use Rattle.push_engine.specs.Preflows.{ceiling, wanted_of, supply, Load, Labels, Holds, pending, fresh}
+use Rattle.push_engine.specs.Preflows.{excess_of, heights_of, ceiling, wanted_of, supply, Load, Labels, Holds, pending, fresh}
 use Rattle.push_engine.specs.Moves.{Settled}
 use Rattle.push_engine.proofs.Sums.{weigh_set}
 use Rattle.push_engine.proofs.Pushes.{ends_at}
@@ -31,70 +30,69 @@ only_none a v f ne = grind (arith, nat_tests)
 only_zero : (b : Bool) (f : ℕ) → f ≡ 0 → only b f ≡ 0
 only_zero b f e = grind arith
 
-none_to_do : (p : Preflow) (u : ℕ) → get_or p.excess u 0 ≡ 0 → pending p u ≡ true → ⊥
+none_to_do : (p : Preflow) (u : ℕ) → get_or (excess_of p) u 0 ≡ 0 → pending p u ≡ true → ⊥
 none_to_do p u z h = grind (arith, nat_tests)
 
--- the lists of a fresh preflow
-module _ (t : Task) (x e d : List ℕ) (xs : length x ≡ 256) (es : length e ≡ 64) (ds : length d ≡ 64)
-    (no-x : (k : ℕ) → get_or x k 0 ≡ 0) (no-e : (k : ℕ) → get_or e k 0 ≡ 0) (no-d : (k : ℕ) → get_or d k 0 ≡ 0) where
-  abbrev start : Preflow
-  start = record { task = t; flow = x; excess = set e 0 (wanted_of t); heights = d }
-
-  waits_at : (v : ℕ) → get_or start.excess v 0 ≡ supply (wanted_of t) v
+-- nothing flows, all nodes stand at 0, and all that is wanted waits at node 0
+module _ (p : Preflow) (e : List ℕ) (xs : length p.flow ≡ 256) (es : length e ≡ 64) (ds : length (heights_of p) ≡ 64)
+    (no-x : (k : ℕ) → get_or p.flow k 0 ≡ 0) (no-e : (k : ℕ) → get_or e k 0 ≡ 0) (no-d : (k : ℕ) → get_or (heights_of p) k 0 ≡ 0) (is : excess_of p ≡ set e 0 (wanted_of p.task)) where
+  waits_at : (v : ℕ) → get_or (excess_of p) v 0 ≡ supply (wanted_of p.task) v
   waits_at v =
       let l : 0 < length e = omega arith in
-      elim (cases_eq v 0) [ inl q ↦ rw (q, get_or-set_same) refl | inr ne ↦ rw get_or-set_other (omega (arith, no-e v, no_supply (wanted_of t) v ne)) ]
+      rw is (elim (cases_eq v 0) [ inl q ↦ rw (q, get_or-set_same) refl | inr ne ↦ rw get_or-set_other (omega (arith, no-e v, no_supply (wanted_of p.task) v ne)) ])
 
-  nothing : (p : Arc → Bool) → ◌≡◌ {A = ℕ} (sum_flow (λ a f. only (p a) f) t.arcs.now x) 0
-  nothing p = sum_none _ (length t.arcs.now) (λ i h. only_zero (p (arc_at t.arcs.now i)) (get_or x i 0) (no-x i))
+  nothing : (b : Arc → Bool) → ◌≡◌ {A = ℕ} (sum_flow (λ a f. only (b a) f) p.task.arcs.now p.flow) 0
+  nothing b = sum_none _ (length p.task.arcs.now) (λ i h. only_zero (b (arc_at p.task.arcs.now i)) (get_or p.flow i 0) (no-x i))
 
-  begins : Holds start
+  begins : Holds p
   begins =
       let l : 0 < length e = omega arith in
       record {
         load = record {
           arcs_held = xs;
-          nodes_held = length-set e 0 (wanted_of t) ∙ es;
+          nodes_held = rw is (length-set e 0 (wanted_of p.task) ∙ es);
           fits = λ k h. omega (arith, no-x k);
           rest = λ k h. no-x k;
           balanced = λ v. omega (arith, nothing (λ a. eqb a.head v), nothing (λ a. eqb a.tail v), waits_at v);
-          whole = omega (arith, weigh_set (λ _. 1) e t.nodes 0 (wanted_of t) (omega (arith, t.counts.0)) l, sum_none (λ v. get_or e v 0 * 1) t.nodes (λ v h. omega (arith, no-e v)), no-e 0);
+          whole = rw is (omega (arith, weigh_set (λ _. 1) e p.task.nodes 0 (wanted_of p.task) (omega (arith, p.task.counts.0)) l, sum_none (λ v. get_or e v 0 * 1) p.task.nodes (λ v h. omega (arith, no-e v)), no-e 0));
         };
         labels = record { held = ds; low = λ v. omega (arith, no-d v); sink = no-d 1; steep = λ k u h more. omega (arith, no-d u) };
       }
 
-  only_source : (u : ℕ) → pending start u ≡ true → u ≡ 0
-  only_source u h = elim (cases_eq u 0) [ inl q ↦ q | inr ne ↦ absurd (none_to_do start u (waits_at u ∙ no_supply (wanted_of t) u ne) h) ]
+  only_source : (u : ℕ) → pending p u ≡ true → u ≡ 0
+  only_source u h = elim (cases_eq u 0) [ inl q ↦ q | inr ne ↦ absurd (none_to_do p u (waits_at u ∙ no_supply (wanted_of p.task) u ne) h) ]
 
 -- what a run starts from
 abbrev pub Start : Preflow → Type 0
 Start p = Holds p × ((u : ℕ) → pending p u ≡ true → u ≡ 0)
 
+excess_fresh : (t : Task) → excess_of (fresh t) ≡ set (replicate 64 0) 0 (wanted_of t)
+unfolding excess_of
+excess_fresh t = refl
+
+heights_fresh : (t : Task) → heights_of (fresh t) ≡ replicate 64 0
+unfolding heights_of
+heights_fresh t = refl
+
 pub started : (t : Task) (p : Preflow) → p ≡ fresh t → Start p
 started t p is =
+    let long : length (heights_of (fresh t)) ≡ 64 = rw (heights_fresh t) refl in
+    let low : (k : ℕ) → get_or (heights_of (fresh t)) k 0 ≡ 0 = rw (heights_fresh t) (zeros 64) in
     rw is (
-      begins t (replicate 256 0) (replicate 64 0) (replicate 64 0) refl refl refl (zeros 256) (zeros 64) (zeros 64),
-      only_source t (replicate 256 0) (replicate 64 0) (replicate 64 0) refl refl refl (zeros 256) (zeros 64) (zeros 64),
+      begins (fresh t) (replicate 64 0) refl refl long (zeros 256) (zeros 64) low (excess_fresh t),
+      only_source (fresh t) (replicate 64 0) refl refl long (zeros 256) (zeros 64) low (excess_fresh t),
     )
 
--- nodes and arcs of a network are those of a task
-module _ (net : Network) (n : ℕ) (arcs : List Arc) (nodes : n ≡ net.nodes) (is : arcs ≡ arcs_of net) where
-  pub counts_of : CountsOk n (length arcs)
-  counts_of = rw (nodes, is) net.counts
-
-  pub rules_of : ArcsOk n (length arcs) arcs
-  rules_of = rw (nodes, is) net.rules
-
 -- at the end
-at_ceiling : (p : Preflow) (v : ℕ) → pending p v ≡ false → v ≢ 1 → v < p.task.nodes → 0 < get_or p.excess v 0 → ceiling p.task.nodes v ≤ get_or p.heights v 0
+at_ceiling : (p : Preflow) (v : ℕ) → pending p v ≡ false → v ≢ 1 → v < p.task.nodes → 0 < get_or (excess_of p) v 0 → ceiling p.task.nodes v ≤ get_or (heights_of p) v 0
 at_ceiling p v h ne v-in some = grind (arith, nat_tests)
 
 twice : (n v : ℕ) → v ≢ 0 → ceiling n v ≡ 2 * n
 twice n v ne = grind (arith, nat_tests)
 
-still : (p : Preflow) → Holds p → (v : ℕ) → pending p v ≡ false → 1 < v → v < p.task.nodes → get_or p.excess v 0 ≡ 0
+still : (p : Preflow) → Holds p → (v : ℕ) → pending p v ≡ false → 1 < v → v < p.task.nodes → get_or (excess_of p) v 0 ≡ 0
 still p i v h two v-in =
-    elim (cases_lt 0 (get_or p.excess v 0)) [
+    elim (cases_lt 0 (get_or (excess_of p) v 0)) [
       | inl some ↦ nothing_high p i v v-in (omega (arith, at_ceiling p v h (omega arith) v-in some, twice p.task.nodes v (omega arith)))
       | inr none ↦ omega arith
     ]
@@ -104,11 +102,11 @@ module _ (net : Network) (t : Task) (q p : Preflow) (nodes : t.nodes ≡ net.nod
   same : p.task ≡ t
   same = s.same ∙ ap (λ (o : Preflow). o.task) from
 
-  load : Load t p.flow p.excess
-  load = subst (λ (u : Task). Load u p.flow p.excess) same s.holds.load
+  load : Load t p.flow (excess_of p)
+  load = subst (λ (u : Task). Load u p.flow (excess_of p)) same s.holds.load
 
-  labels : Labels t p.flow p.heights
-  labels = subst (λ (u : Task). Labels u p.flow p.heights) same s.holds.labels
+  labels : Labels t p.flow (heights_of p)
+  labels = subst (λ (u : Task). Labels u p.flow (heights_of p)) same s.holds.labels
 
   nodes_same : p.task.nodes ≡ t.nodes
   nodes_same = ap (λ (u : Task). u.nodes) same
@@ -120,7 +118,7 @@ module _ (net : Network) (t : Task) (q p : Preflow) (nodes : t.nodes ≡ net.nod
         kept = λ v two v-in. omega (arith, load.balanced v, still p s.holds v (s.idle v) two (omega (arith, nodes_same)), no_supply t.wanted.value v (omega arith));
       }
 
-  sized_by : size t.arcs.now p.flow + get_or p.excess 0 0 ≡ t.wanted.value
+  sized_by : size t.arcs.now p.flow + get_or (excess_of p) 0 0 ≡ t.wanted.value
   sized_by =
       omega (
         arith,
@@ -131,22 +129,22 @@ module _ (net : Network) (t : Task) (q p : Preflow) (nodes : t.nodes ≡ net.nod
   pub rest : ZeroAfter (arcs_of net) p.flow
   rest = rw (← is) load.rest
 
-  pub reaches : get_or p.excess 0 0 ≡ 0 → Reaches net.nodes t.limit.value t.wanted.value (arcs_of net) p.flow
+  pub reaches : get_or (excess_of p) 0 0 ≡ 0 → Reaches net.nodes t.limit.value t.wanted.value (arcs_of net) p.flow
   reaches z = rw (← is, ← nodes) (record { is_flow = is_flow; full = omega (arith, sized_by) })
 
-  module _ (r : ℕ) (left : 0 < get_or p.excess 0 0) (i : Innermost net.nodes t.limit.value (arcs_of net) p.flow (inside r)) where
+  module _ (r : ℕ) (left : 0 < get_or (excess_of p) 0 0) (i : Innermost net.nodes t.limit.value (arcs_of net) p.flow (inside r)) where
     -- node 0 stands at its ceiling
-    top : t.nodes ≤ get_or p.heights 0 0
+    top : t.nodes ≤ get_or (heights_of p) 0 0
     top = omega (arith, at_ceiling p 0 (s.idle 0) (omega arith) (omega (arith, nodes_same, t.counts.0)) left, nodes_same)
 
     -- the nodes above a gap are a closed set with node 0 and without node 1
     no_sink : inside r 1 ≡ true → ⊥
     no_sink h =
-        let g = gap (λ v. get_or p.heights v 0) t.nodes 0 0 (omega (arith, t.counts.0)) (omega (arith, top)) in
-        let closed = above_gap t p.flow p.heights 0 g.0 labels.steep g.1 in
+        let g = gap (λ v. get_or (heights_of p) v 0) t.nodes 0 0 (omega (arith, t.counts.0)) (omega (arith, top)) in
+        let closed = above_gap t p.flow (heights_of p) 0 g.0 labels.steep g.1 in
         let here : Innermost net.nodes t.limit.value t.arcs.now p.flow (inside r) = rw is i in
-        let z = here.least (λ v. ltb g.0 (get_or p.heights v 0)) (lt-ltb g.0 (get_or p.heights 0 0) (omega (arith, top, g.1.low))) closed 1 h in
-        omega (arith, ltb-true g.0 (get_or p.heights 1 0) z, labels.sink)
+        let z = here.least (λ v. ltb g.0 (get_or (heights_of p) v 0)) (lt-ltb g.0 (get_or (heights_of p) 0 0) (omega (arith, top, g.1.low))) closed 1 h in
+        omega (arith, ltb-true g.0 (get_or (heights_of p) 1 0) z, labels.sink)
 
     pub short : FallsShort net.nodes t.limit.value t.wanted.value r (arcs_of net) p.flow
     short =

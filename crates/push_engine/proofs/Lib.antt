@@ -1,4 +1,5 @@
 mod Sums
+mod Nodes
 mod Pushes
 mod Queues
 mod Pending

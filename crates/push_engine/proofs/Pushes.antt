@@ -10,10 +10,11 @@ use Rattle.flows.proofs.Places.{sum_set, each_set}
 use Rattle.push_engine.specs.declared.preflow.Task.{Task}
 use Rattle.push_engine.specs.declared.preflow.Preflow.{Preflow}
 use Rattle.path_engine.specs.Residual.{far_end, residual_of, end_at, residual}
-use Rattle.push_engine.specs.Preflows.{limit_of, wanted_of, ceiling, moved, carried_after, Load, Steep, Holds, effort, sent, raised}
+use Rattle.push_engine.specs.Preflows.{limit_of, wanted_of, excess_of, heights_of, ceiling, carried_after, Load, Steep, Holds, effort, sent, raised}
 use Rattle.push_engine.specs.Moves.{CanPush, CanRelabel, Stepped}
 use Rattle.flows.proofs.Sums.{sum_change, term_le}
-use Rattle.push_engine.proofs.Sums.{weigh_set, moved_long, weigh_moved, moved_at}
+use Rattle.push_engine.proofs.Nodes.{excess_sent, heights_sent, excess_raised, heights_raised}
+use Rattle.push_engine.proofs.Sums.{moved, weigh_set, moved_long, weigh_moved, moved_at}
 
 -- what the rules say of an arc
 pub record Ends (n : ℕ) (a : Arc) : Type 0 where
@@ -77,7 +78,7 @@ gets_le t x e o a b m a_in b-in le =
     omega (arith, weigh_set (λ _. 1) e t.nodes a (get_or e a 0 - m) a_in l, term_le (λ v. get_or (set e a (get_or e a 0 - m)) v 0 * 1) b t.nodes b-in, o.whole)
 
 module _ (p : Preflow) (v k m : ℕ) (i : Holds p) (v-in : v < p.task.nodes) (w : CanPush p v k)
-    (some : 0 < m) (fits : m ≤ residual (limit_of p.task) p.task.arcs.now p.flow k v) (le : m ≤ get_or p.excess v 0) where
+    (some : 0 < m) (fits : m ≤ residual (limit_of p.task) p.task.arcs.now p.flow k v) (le : m ≤ get_or (excess_of p) v 0) where
   abbrev t : Task
   t = p.task
 
@@ -91,10 +92,10 @@ module _ (p : Preflow) (v k m : ℕ) (i : Holds p) (v-in : v < p.task.nodes) (w 
   x = p.flow
 
   abbrev e : List ℕ
-  e = p.excess
+  e = excess_of p
 
   abbrev d : List ℕ
-  d = p.heights
+  d = heights_of p
 
   abbrev to : ℕ
   to = end_at arcs k v
@@ -146,13 +147,13 @@ module _ (p : Preflow) (v k m : ℕ) (i : Holds p) (v-in : v < p.task.nodes) (w 
       ]
 
   less_effort : effort (sent p k v m) < effort p
-  less_effort = omega (arith, weigh_moved e m v to le from_in far_held (λ u. get_or d u 0) t.nodes v-in to_in, mul-le-mul_left m w.down)
+  less_effort = rw (excess_sent p k v m, heights_sent p k v m) (omega (arith, weigh_moved e m v to le from_in far_held (λ u. get_or d u 0) t.nodes v-in to_in, mul-le-mul_left m w.down))
 
   pub push_steps : Stepped p (sent p k v m)
   push_steps =
       record {
         same = refl;
-        holds = record { load = load_pushed; labels = record { held = i.labels.held; low = i.labels.low; sink = i.labels.sink; steep = steep_pushed } };
+        holds = record { load = rw (excess_sent p k v m) load_pushed; labels = rw (heights_sent p k v m) (record { held = i.labels.held; low = i.labels.low; sink = i.labels.sink; steep = steep_pushed }) };
         less = less_effort;
       }
 
@@ -172,8 +173,8 @@ ceiling_le n v = grind (arith, nat_tests)
 pub raise_steps : (p : Preflow) (v h : ℕ) → Holds p → v < p.task.nodes → v ≢ 1 → CanRelabel p v h (length p.task.arcs.now) → Stepped p (raised p v h)
 raise_steps p v h i v-in no_sink w =
     let t = p.task in
-    let e = p.excess in
-    let d = p.heights in
+    let e = excess_of p in
+    let d = heights_of p in
     let n = t.nodes in
     let top : ℕ = 2 * n in
     let l : v < length d = omega (arith, t.counts.1, i.labels.held) in
@@ -184,15 +185,15 @@ raise_steps p v h i v-in no_sink w =
     record {
       same = refl;
       holds = record {
-        load = i.load;
-        labels = record {
+        load = rw (excess_raised p v h) i.load;
+        labels = rw (heights_raised p v h) (record {
           held = length-set d v h ∙ i.labels.held;
           low = λ u. elim (cases_eq u v) [ inl q ↦ rw (q, get_or-set_same) w.low | inr ne ↦ rw get_or-set_other (i.labels.low u) ];
           sink = rw get_or-set_other i.labels.sink;
           steep = λ k u m more. set_steep d v h l w.higher u (end_at t.arcs.now k u) (i.labels.steep k u m more) (λ q. let here : 0 < residual (limit_of t) t.arcs.now p.flow k v = rw q at more in rw q (w.steep k m here));
-        };
+        });
       };
-      less = omega (
+      less = rw (excess_raised p v h, heights_raised p v h) (omega (
         arith,
         rw get_or-set_same at (sum_change (λ u. get_or e u 0 * get_or (set d v h) u 0) (λ u. get_or e u 0 * get_or d u 0) v n v-in (λ u ne. rw get_or-set_other)),
         rw get_or-set_same at (sum_change (λ u. (wanted_of t + 1) * (top - get_or (set d v h) u 0)) (λ u. (wanted_of t + 1) * (top - get_or d u 0)) v n v-in (λ u ne. rw get_or-set_other)),
@@ -202,5 +203,5 @@ raise_steps p v h i v-in no_sink w =
         ap (λ j. (wanted_of t + 1) * j) gone,
         mul-le-mul_right step (waits_le t p.flow e i.load v v-in),
         w.higher,
-      );
+      ));
     }

@@ -71,17 +71,3 @@ pub called : (f : ℕ → Bool) (v : ℕ) (l w : List ℕ) → l ≡ v ∷ w →
 called f v l w y all =
     let q : Once f (v ∷ w) = rw y at all in
     (let t = q v in grind (arith, nat_tests), λ u. elim (cases_eq u v) [ inl e ↦ rw e (let t = q v in grind (arith, nat_tests)) | inr ne ↦ let t = q u in grind (arith, nat_tests) ])
-
--- the line at the start and at the end
-pub alone : (f : ℕ → Bool) (w w' : List ℕ) → w ≡ [] → w' ≡ w ++ 0 ∷ [] → ((u : ℕ) → f u ≡ true → u ≡ 0) → f 0 ≡ true → Once f w'
-alone f w w' e e' only-0 h u =
-    let o = only-0 u in
-    rw (e', e) (elim (cases_eq u 0) [ inl z ↦ let b : f u ≡ true = rw z h in grind (arith, nat_tests) | inr ne ↦ grind (arith, nat_tests) ])
-
-pub nobody : (f : ℕ → Bool) (w : List ℕ) → w ≡ [] → ((u : ℕ) → f u ≡ true → u ≡ 0) → f 0 ≡ false → Once f w
-nobody f w e only-0 h u =
-    let o = only-0 u in
-    rw e (elim (cases_eq u 0) [ inl z ↦ let b : f u ≡ false = rw z h in grind (arith, nat_tests) | inr ne ↦ grind (arith, nat_tests) ])
-
-pub none_left : (f : ℕ → Bool) (w : List ℕ) → w ≡ [] → Once f w → (u : ℕ) → f u ≡ false
-none_left f w e h u = let t : tally u [] ≡ only (f u) 1 = rw e at (h u) in grind (arith, nat_tests)

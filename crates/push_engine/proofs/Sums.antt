@@ -4,7 +4,7 @@ use Rattle.std.proofs.lemmas.Bool.{cases_lt, cases_eq}
 use Rattle.std.proofs.lemmas.Bool.Decides.{nat_tests}
 use Rattle.flows.specs.Sums.{sum_to, only}
 use Rattle.flows.proofs.Sums.{sum_change, sum_equal}
-use Rattle.push_engine.specs.Preflows.{weigh, moved}
+use Rattle.push_engine.specs.Preflows.{weigh}
 
 -- terms of at most one
 pub few : (n : ℕ) (f : ℕ → ℕ) → ((u : ℕ) → f u ≤ 1) → sum_to n f ≤ n
@@ -25,6 +25,9 @@ set_at l c y v h =
     elim (cases_eq v c) [ inl q ↦ rw (q, get_or-set_same) (grind (arith, nat_tests)) | inr ne ↦ rw get_or-set_other (grind (arith, nat_tests)) ]
 
 -- the amount m goes from a to b
+abbrev pub moved : ℕ → ℕ → ℕ → List ℕ → List ℕ
+moved m a b e = set (set e a (get_or e a 0 - m)) b (get_or (set e a (get_or e a 0 - m)) b 0 + m)
+
 module _ (e : List ℕ) (m a b : ℕ) (le : m ≤ get_or e a 0) (la : a < length e) (lb : b < length e) where
   abbrev less : List ℕ
   less = set e a (get_or e a 0 - m)

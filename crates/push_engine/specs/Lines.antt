@@ -2,7 +2,7 @@
 use Rattle.std.specs.Prelude.{◌≡◌, ℕ, ◌+◌, ◌≤◌, true, not, ◌&&◌, List, [], ◌∷◌, length, Some, None, Option, ◌==◌}
 use Rattle.flows.specs.Sums.{only}
 use Rattle.push_engine.specs.declared.preflow.Preflow.{Preflow}
-use Rattle.push_engine.specs.Preflows.{Holds, effort, pending}
+use Rattle.push_engine.specs.Preflows.{heights_of, Holds, effort, pending}
 use Rattle.push_engine.specs.Moves.{CanRelabel, Stepped}
 
 -- how often u stands in a list
@@ -18,11 +18,16 @@ Queued p w = (u : ℕ) → tally u w ≡ only (pending p u) 1
 abbrev pub QueuedBut : Preflow → ℕ → List ℕ → Type 0
 QueuedBut p v w = (u : ℕ) → tally u w ≡ only (pending p u && not (u == v)) 1
 
+-- something is to be done at v, which was taken from the line w
+pub record Taken (p : Preflow) (v : ℕ) (w : List ℕ) : Type 0 where
+  pub waits : pending p v ≡ true
+  pub queued : QueuedBut p v w
+
 -- between two moves at v, which began with the preflow p
 pub record Working (p : Preflow) (v : ℕ) (q : Preflow) (w : List ℕ) : Type 0 where
   pub same : q.task ≡ p.task
   pub holds : Holds q
-  pub level : q.heights ≡ p.heights
+  pub level : heights_of q ≡ heights_of p
   pub waits : pending q v ≡ true
   pub queued : QueuedBut q v w
   pub less : effort q ≤ effort p

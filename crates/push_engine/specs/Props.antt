@@ -7,7 +7,7 @@ use Rattle.flows.specs.Flows.{EachArc, capacity_under, inflow, outflow}
 use Rattle.network.specs.Runs.{ZeroAfter}
 use Rattle.push_engine.specs.declared.preflow.Task.{Task}
 use Rattle.push_engine.specs.declared.preflow.Preflow.{Preflow}
-use Rattle.push_engine.specs.Preflows.{limit_of, wanted_of, supply, weigh, ceiling, Load, Steep, Labels, Holds}
+use Rattle.push_engine.specs.Preflows.{limit_of, wanted_of, excess_of, heights_of, supply, weigh, ceiling, Load, Steep, Labels, Holds}
 
 Load-prop : (t : Task) (x e : List ℕ) → IsProp (Load t x e)
 Load-prop t x e a b =
@@ -26,7 +26,7 @@ Labels-prop t x d a b =
 
 pub Holds-prop : (p : Preflow) → IsProp (Holds p)
 Holds-prop p a b =
-    let Parts : Type 0 = Load p.task p.flow p.excess × Labels p.task p.flow p.heights in
-    let one : IsProp Parts = ×_prop (Load-prop p.task p.flow p.excess) (Labels-prop p.task p.flow p.heights) in
+    let Parts : Type 0 = Load p.task p.flow (excess_of p) × Labels p.task p.flow (heights_of p) in
+    let one : IsProp Parts = ×_prop (Load-prop p.task p.flow (excess_of p)) (Labels-prop p.task p.flow (heights_of p)) in
     let whole : Parts → Holds p = λ q. record { load = q.0; labels = q.1 } in
     ap whole (one (a.load, a.labels) (b.load, b.labels))

@@ -29,7 +29,7 @@ impl Method for PreflowPush {
         };
         let preflow = Preflow::new(task).settle();
         *flow = preflow.flow;
-        if preflow.excess[0] == 0 {
+        if preflow.excess(0) == 0 {
             return Answer::Reached;
         }
         Answer::Short {

@@ -18,30 +18,39 @@ pub(crate) struct Task<'a> {
     ghost rules: { ArcsOk nodes (length arcs.now) arcs.now },
 }
 
-/// What each arc carries, what waits at each node, and how high each node stands.
+/// What waits at a node, and how high it stands.
+#[derive(Clone, Copy)]
+pub(crate) struct Node {
+    pub(crate) excess: u32,
+    pub(crate) height: u8,
+}
+
+/// What each arc carries, and the nodes.
 #[derive(Drop)]
 pub(crate) struct Preflow<'a> {
     pub(crate) task: Task<'a>,
     pub(crate) flow: [u32; 256],
-    pub(crate) excess: [u32; 64],
-    pub(crate) heights: [u8; 64],
+    pub(crate) nodes: [Node; 64],
 }
 
 impl<'a> Preflow<'a> {
     ghost use Rattle.path_engine.specs.Residual.{residual};
-    ghost use Rattle.push_engine.specs.Preflows.{limit_of, ceiling, Holds, fresh, pending, sent};
+    ghost use Rattle.push_engine.specs.Preflows.{limit_of, excess_of, heights_of, ceiling, Holds, fresh, pending, sent};
 
     /// Nothing flows, and all that is wanted waits at node 0.
     pub(crate) fn new(task: Task<'a>) -> Preflow<'a>
         ensures { result ≡ fresh task.entry }
     {
-        let mut excess = [0; 64];
-        excess[0] = task.wanted.value();
+        let idle = Node {
+            excess: 0,
+            height: 0,
+        };
+        let mut nodes = [idle; 64];
+        nodes[0].excess = task.wanted.value();
         Preflow {
             task,
             flow: [0; 256],
-            excess,
-            heights: [0; 64],
+            nodes,
         }
     }
 
@@ -50,6 +59,22 @@ impl<'a> Preflow<'a> {
         ensures { result.now ≡ self.now.task.arcs.now }
     {
         self.task.arcs
+    }
+
+    /// What waits at a node.
+    pub(crate) fn excess(&self, node: u8) -> u32
+        requires { node < 64 }
+        ensures { result ≡ slice_index (excess_of self.now) node }
+    {
+        self.nodes[node as usize].excess
+    }
+
+    /// How high a node stands.
+    pub(crate) fn height(&self, node: u8) -> u8
+        requires { node < 64 }
+        ensures { result ≡ slice_index (heights_of self.now) node }
+    {
+        self.nodes[node as usize].height
     }
 
     /// How high a node may stand. Node 0 at its ceiling keeps what waits there, and other nodes never
@@ -70,8 +95,8 @@ impl<'a> Preflow<'a> {
     {
         node < self.task.nodes
             && node != 1
-            && self.excess[node as usize] > 0
-            && self.heights[node as usize] < self.ceiling(node)
+            && self.excess(node) > 0
+            && self.height(node) < self.ceiling(node)
     }
 
     /// Sends an amount from a node to the other end of an arc.
@@ -79,8 +104,9 @@ impl<'a> Preflow<'a> {
         requires holds { Holds self.old }
         requires inside { k < length self.old.task.arcs.now }
         requires node { node < self.old.task.nodes }
-        requires fits { amount ≤ residual (limit_of self.old.task) self.old.task.arcs.now self.old.flow k node }
-        requires waits { amount ≤ slice_index self.old.excess node }
+        requires fits { amount
+            ≤ residual (limit_of self.old.task) self.old.task.arcs.now self.old.flow k node }
+        requires waits { amount ≤ slice_index (excess_of self.old) node }
         ensures { self.new ≡ sent self.old k node amount }
     {
         let arc = self.task.arcs[k];
@@ -90,7 +116,7 @@ impl<'a> Preflow<'a> {
             self.flow[k] - amount
         };
         self.flow[k] = carried;
-        self.excess[node as usize] -= amount;
-        self.excess[far_end(arc, node) as usize] += amount;
+        self.nodes[node as usize].excess -= amount;
+        self.nodes[far_end(arc, node) as usize].excess += amount;
     }
 }

@@ -4,7 +4,7 @@ ghost use Rattle.line.specs.Waiting.{waiting};
 ghost use Rattle.push_engine.specs.Preflows.{Holds, pending, pushable, sent, raised};
 ghost use Rattle.push_engine.specs.Props.{Holds-prop};
 ghost use Rattle.push_engine.specs.Moves.{CanPush, CanRelabel, Stepped, Settled};
-ghost use Rattle.push_engine.specs.Lines.{Queued, QueuedBut, Drained};
+ghost use Rattle.push_engine.specs.Lines.{Queued, QueuedBut, Taken, Drained};
 
 use crate::preflow::Preflow;
 use crate::queue::Queue;
@@ -21,10 +21,10 @@ impl Work<'_> {
     // Pushes as much as can go from a node by an arc. The other end joins the queue, if only now
     // something is to be done there.
     fn push(&mut self, queue: &mut Queue<'_>, node: u8, k: usize)
-        requires waits { pending self.old.preflow node ≡ true }
+        requires taken { Taken self.old.preflow node (waiting queue.old.line) }
         requires can { CanPush self.old.preflow node k }
-        requires queued { QueuedBut self.old.preflow node (waiting queue.old.line) }
-        ensures pushed { self.new.preflow ≡ sent self.old.preflow k node (pushable self.old.preflow k node) }
+        ensures pushed { self.new.preflow
+            ≡ sent self.old.preflow k node (pushable self.old.preflow k node) }
         ensures queued { QueuedBut self.new.preflow node (waiting queue.new.line) }
     {
         let preflow = &mut self.preflow;
@@ -32,7 +32,7 @@ impl Work<'_> {
         let to = far_end(arc, node);
         let waited = preflow.is_pending(to);
         let most = residual_from(arc, preflow.flow[k], preflow.task.limit, node);
-        preflow.send(k, node, most.min(preflow.excess[node as usize]));
+        preflow.send(k, node, most.min(preflow.excess(node)));
         if !waited && preflow.is_pending(to) {
             queue.join(to);
         }
@@ -41,13 +41,13 @@ impl Work<'_> {
     // Raises a node that has left the queue. It joins the queue again, if something is still to be
     // done there.
     fn relabel(&mut self, queue: &mut Queue<'_>, node: u8, height: u8)
-        requires waits { pending self.old.preflow node ≡ true }
-        requires can { CanRelabel self.old.preflow node height (length self.old.preflow.task.arcs.now) }
-        requires queued { QueuedBut self.old.preflow node (waiting queue.old.line) }
+        requires taken { Taken self.old.preflow node (waiting queue.old.line) }
+        requires can { CanRelabel self.old.preflow node height
+            (length self.old.preflow.task.arcs.now) }
         ensures raised { self.new.preflow ≡ raised self.old.preflow node height }
         ensures queued { Queued self.new.preflow (waiting queue.new.line) }
     {
-        self.preflow.heights[node as usize] = height;
+        self.preflow.nodes[node as usize].height = height;
         if self.preflow.is_pending(node) {
             queue.join(node);
         }
@@ -56,22 +56,21 @@ impl Work<'_> {
     // Pushes from a node to lower ones, until nothing waits there, or says how high the node is to
     // be raised: one above the lowest node to which more could go, and at most to its ceiling.
     fn push_down(&mut self, queue: &mut Queue<'_>, node: u8) -> Option<u8>
-        requires waits { pending self.old.preflow node ≡ true }
-        requires queued { QueuedBut self.old.preflow node (waiting queue.old.line) }
+        requires { Taken self.old.preflow node (waiting queue.old.line) }
         ensures { Drained self.old.preflow node self.new.preflow (waiting queue.new.line) result }
     {
-        let height = self.preflow.heights[node as usize];
+        let height = self.preflow.height(node);
         let mut next = self.preflow.ceiling(node);
         let arcs = self.preflow.arcs();
         for (k, arc) in arcs.iter().enumerate() {
             let preflow = &self.preflow;
             if residual_from(*arc, preflow.flow[k], preflow.task.limit, node) > 0 {
-                let end = preflow.heights[far_end(*arc, node) as usize];
+                let end = preflow.height(far_end(*arc, node));
                 if end >= height {
                     next = next.min(end + 1);
                 } else {
                     self.push(queue, node, k);
-                    if self.preflow.excess[node as usize] == 0 {
+                    if self.preflow.excess(node) == 0 {
                         return None;
                     }
                 }
@@ -82,8 +81,7 @@ impl Work<'_> {
 
     // Works at a node that has left the queue, until nothing waits there or the node is raised.
     fn discharge(&mut self, queue: &mut Queue<'_>, node: u8)
-        requires waits { pending self.old.preflow node ≡ true }
-        requires queued { QueuedBut self.old.preflow node (waiting queue.old.line) }
+        requires { Taken self.old.preflow node (waiting queue.old.line) }
         ensures stepped { Stepped self.old.preflow self.new.preflow }
         ensures queued { Queued self.new.preflow (waiting queue.new.line) }
     {

@@ -7,12 +7,12 @@ settle-preflow-requires c =
     let s = started _ c.new.result c.new.ensures in
     record { holds = s.0; start = s.1 }
 
-pub returns-then-preflow-eq0 : goal.returns-then-preflow-eq0
-returns-then-preflow-eq0 c =
+pub returns-then-excess-eq0 : goal.returns-then-excess-eq0
+returns-then-excess-eq0 c =
     let net = c.args.net.now in
     let p = c.settle-preflow.result in
     record {
-      shown = reaches net _ _ p c.nodes.ensures c.arcs.ensures c.new.ensures c.settle-preflow.ensures c.if-preflow-eq0.true;
+      shown = reaches net _ _ p c.nodes.ensures c.arcs.ensures c.new.ensures c.settle-preflow.ensures (omega arith);
       least = tt;
       rest = rest net _ _ p c.nodes.ensures c.arcs.ensures c.new.ensures c.settle-preflow.ensures;
     }

@@ -1,13 +1,13 @@
-use Rattle.std.proofs.Common.{◌∙◌, arith}
+use Rattle.std.proofs.Common.{arith}
 use Rattle.push_engine.proofs.Rounds.{went, emptied, goes_on, raise_past, raise_full, raise_beside, can_push_down}
 use Rattle.push_engine.proofs.work.Work.push_down.Goals as goal
-use Rattle.push_engine.proofs.work.Work.push_down.Goals.{then-residual_from-gt0+then-end-height, then-residual_from-gt0+else-end-height+else-self-node-eq0, else-residual_from-gt0}
+use Rattle.push_engine.proofs.work.Work.push_down.Goals.{then-residual_from-gt0+then-end-height, then-residual_from-gt0+else-end-height+else-excess-eq0, else-residual_from-gt0}
 
-pub returns-then-self-node-eq0 : goal.returns-then-self-node-eq0
-returns-then-self-node-eq0 c =
+pub returns-then-excess-eq0 : goal.returns-then-excess-eq0
+returns-then-excess-eq0 c =
     let i = c.loop-k.invariant.working in
-    let can = can_push_down _ _ _ _ i _ c.loop-k.invariant.arcs c.loop-k.k c.far_end.result c.far_end.ensures (omega arith) (omega arith) c.if-end-height.false in
-    (went _ _ _ _ _ _ _ i can c.push.ensures.pushed c.push.ensures.queued, emptied _ _ _ _ _ _ _ i can c.push.ensures.pushed c.push.ensures.queued c.if-self-node-eq0.true)
+    let can = can_push_down _ _ _ _ i _ c.loop-k.invariant.arcs c.loop-k.k c.far_end.result c.far_end.ensures (omega arith) (omega arith) (omega arith) in
+    (went _ _ _ _ _ _ _ i can c.push.ensures.pushed c.push.ensures.queued, emptied _ _ _ _ _ _ _ i can c.push.ensures.pushed c.push.ensures.queued (omega arith))
 
 pub loop-k-preserved : goal.loop-k-preserved
 loop-k-preserved c =
@@ -18,10 +18,10 @@ loop-k-preserved c =
       | then-residual_from-gt0+then-end-height w ↦ rw (w.self-is, w.queue-is) (record {
         arcs = same;
         working = i;
-        next = raise_beside _ _ _ _ i _ same c.loop-k.k w.far_end.result w.far_end.ensures _ _ next w.if-end-height.true (w.next-is ∙ w.min-next.ensures);
+        next = raise_beside _ _ _ _ i _ same c.loop-k.k w.far_end.result w.far_end.ensures _ _ next (omega arith) (omega arith);
       })
-      | then-residual_from-gt0+else-end-height+else-self-node-eq0 w ↦
-          let can = can_push_down _ _ _ _ i _ same c.loop-k.k w.far_end.result w.far_end.ensures (omega arith) (omega arith) w.if-end-height.false in
+      | then-residual_from-gt0+else-end-height+else-excess-eq0 w ↦
+          let can = can_push_down _ _ _ _ i _ same c.loop-k.k w.far_end.result w.far_end.ensures (omega arith) (omega arith) (omega arith) in
           let e = w.push.ensures.pushed in
           let b = w.push.ensures.queued in
           rw (w.self-is, w.queue-is, w.next-is) (record {
