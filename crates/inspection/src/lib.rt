@@ -143,7 +143,7 @@ fn add_contents(heap: Global, reader: Reader<'_>, text: &mut Vec<u8>) -> Result<
         format_args!("types {types}, nozzles {nozzles}\n"),
         text,
     )?;
-    for (number, record) in (1..MOST_TYPES + 1).zip(reader) {
+    for (number, record) in (1..=MOST_TYPES).zip(reader) {
         add_record(heap, number, record, text)?;
     }
     Ok(())

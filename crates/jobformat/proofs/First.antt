@@ -1,6 +1,6 @@
 -- A reading stops at the first byte that no well-made file has there.
 use Rattle.std.proofs.Common.{◌≡◌, ℕ, zero, suc, ◌+◌, ◌-◌, ◌*◌, ◌^◌, ◌<◌, ◌≤◌, Bool, true, false, cond, ◌&&◌, ltb, leb, List, [], ◌∷◌, ◌++◌, length, take, Some, None, Ok, sym, refl, ap, ◌∙◌, subst, append_assoc, append-nil, arith, length-append, pow_pos, lt-ltb}
-use Rattle.jobformat.specs.Reading.{Parse, got, short, bad, then, number, number_if, mask, mask_if, graphics, name, name_if, has, is_map, fields, entry, records, header, ended, file, verdict, reading}
+use Rattle.jobformat.specs.Reading.{Parse, got, short, bad, then, number, number_if, mask, mask_if, graphics, name, name_if, field_if, has, is_map, fields, entry, records, header, ended, file, verdict, reading}
 use Rattle.std.proofs.lemmas.List.{take_at}
 use Rattle.jobformat.specs.declared.FileFault.TheVariants.{BadByte}
 use Rattle.jobformat.specs.Format.{Contents, graphic, AllBytes, FileOf, IsFile, Begins, FirstFault, Answers}
@@ -154,12 +154,9 @@ number_good =
     same (a ∷ []) = refl
     same (a ∷ b ∷ bs) = refl
 
-some_good : {X : Type 0} (P : List ℕ → Parse X) → Good P → Good (λ bs. then (P bs) (λ x rest. got (Some x) rest))
-some_good P good = then_good P _ good (λ x. got_good (Some x))
-
-number_if_good : (b : Bool) → Good (number_if b)
-number_if_good false = got_good None
-number_if_good true = some_good number number_good
+field_if_good : {X : Type 0} (present : Bool) (P : List ℕ → Parse X) → Good P → Good (λ bs. field_if present (P bs) bs)
+field_if_good false P good = got_good None
+field_if_good true P good = then_good P _ good (λ x. got_good (Some x))
 
 mask_good : (r : ℕ) → Good (mask r)
 mask_good r = alike (byte_that (λ b. ltb b (2 ^ r))) (mask r) same (byte_good (λ b. ltb b (2 ^ r)) 0 (omega arith) (lt-ltb 0 (2 ^ r) (pow_pos r)))
@@ -167,10 +164,6 @@ mask_good r = alike (byte_that (λ b. ltb b (2 ^ r))) (mask r) same (byte_good (
     same : (bs : List ℕ) → byte_that (λ b. ltb b (2 ^ r)) bs ≡ mask r bs
     same [] = refl
     same (b ∷ bs) = refl
-
-mask_if_good : (b : Bool) (r : ℕ) → Good (mask_if b r)
-mask_if_good false r = got_good None
-mask_if_good true r = some_good (mask r) (mask_good r)
 
 graphics_good : (n : ℕ) → Good (λ bs. graphics bs n)
 graphics_good zero = got_good []
@@ -194,13 +187,9 @@ name_good =
     same [] = refl
     same (n ∷ bs) = then-cond (name_size n) (got n bs) (bad (length (n ∷ bs))) _
 
-name_if_good : (b : Bool) → Good (name_if b)
-name_if_good false = got_good None
-name_if_good true = some_good name name_good
-
 fields_good : (r m : ℕ) → Good (fields r m)
 fields_good r m =
-    then_good (number_if (has m 1)) _ (number_if_good (has m 1)) (λ q. then_good (mask_if (has m 2) r) _ (mask_if_good (has m 2) r) (λ k. then_good (number_if (has m 4)) _ (number_if_good (has m 4)) (λ l. then_good (name_if (has m 8)) _ (name_if_good (has m 8)) (λ n. got_good _))))
+    then_good (number_if (has m 1)) _ (field_if_good (has m 1) number number_good) (λ q. then_good (mask_if (has m 2) r) _ (field_if_good (has m 2) (mask r) (mask_good r)) (λ k. then_good (number_if (has m 4)) _ (field_if_good (has m 4) number number_good) (λ l. then_good (name_if (has m 8)) _ (field_if_good (has m 8) name name_good) (λ n. got_good _))))
 
 entry_good : (r : ℕ) → Good (entry r)
 entry_good r =

@@ -1,6 +1,6 @@
 -- What stands while the records of a file are entered.
-use Rattle.std.proofs.Common.{◌≡◌, ℕ, suc, ◌+◌, ◌-◌, true, not, ◌||◌, List, [], ◌∷◌, ◌++◌, map, length, set, replicate, is_some, Some, None, Ok, Option, Result, sym, refl, ap, ◌∙◌, subst, append_assoc, append-nil, arith}
-use Rattle.std.proofs.lemmas.List.{length-append, length-map, length-replicate, length_push, get_or_at, set_at, map_push}
+use Rattle.std.proofs.Common.{◌≡◌, ℕ, suc, ◌+◌, ◌<◌, ◌-◌, ◌≤◌, true, not, ◌||◌, List, [], ◌∷◌, ◌++◌, map, length, set, replicate, is_some, Some, None, Ok, Option, Result, sym, refl, ap, ◌∙◌, subst, append_assoc, append-nil, arith}
+use Rattle.std.proofs.lemmas.List.{length-map, length-replicate, length_push, get_or_at, set_at, map_push}
 use Rattle.std.proofs.lemmas.Bool.{and_parts, false≢true}
 use Rattle.jobformat.specs.declared.FileFault.{FileFault}
 use Rattle.jobformat.specs.Format.{Entry, Contents, Fine, AllFine, WellFormed, mask_fits}
@@ -67,12 +67,12 @@ entries_push t kind [] e p =
 entries_push t kind (x ∷ es) e p =
     ap (λ l. entry_turns t x ++ l) (entries_push (suc t) kind es e (omega arith)) ∙ sym (append_assoc (entry_turns t x) (entries_turns (suc t) es) (entry_turns kind e))
 
--- the records of the front are entered, which led from s₀ to s; es are the others, the first of them
--- of the type kind
+-- the records of the front are entered, which led from s₀ to s; es are the others, the first of them,
+-- where there is one, of the type kind
 pub record Loading (number : ℕ) (c : Contents) (s₀ s : State) (kind : ℕ) (es : List Entry) : Type 0 where
   pub front : List Entry
   pub split : front ++ es ≡ c.entries
-  pub place : length front + 1 ≡ kind
+  pub place : 0 < length es → length front + 1 ≡ kind
   pub formed : WellFormed c
   pub fine : AllFine c.nozzles es
   pub state : s ≡ fresh (book_with number (map type_of front ++ replicate (length es) blank) c.nozzles)
@@ -82,7 +82,7 @@ pub loading_none : (number k r : ℕ) (c : Contents) (s : State) → WellFormed 
 loading_none number k r c s w p q e = record {
   front = [];
   split = refl;
-  place = refl;
+  place = λ more. refl;
   formed = w;
   fine = w.fine;
   state = e ∙ (λ i. fresh (opened_book number ((p ∙ sym w.count) i) (q i)));
@@ -100,27 +100,27 @@ module _ (number : ℕ) (c : Contents) (s₀ s : State) (kind : ℕ) (e : Entry)
       let all : c.nozzles ≡ length s.book.nozzles = sym (ap (λ s. length s.book.nozzles) h.state ∙ length-replicate c.nozzles InService) in
       subst (λ r. Fine r e) all h.fine.0
 
-  pub loading_more : (s' : State) → Run s (entry_turns kind e) s' → Loading number c s₀ s' (kind + 1) es
-  loading_more s' r =
+  pub loading_more : (s' : State) (kind' : ℕ) → Run s (entry_turns kind e) s' → (0 < length es → kind' ≡ kind + 1) → Loading number c s₀ s' kind' es
+  loading_more s' kind' r on =
+      let here : length h.front + 1 ≡ kind = h.place (omega arith) in
       let xs = map type_of h.front in
       let ys = replicate (length es) blank in
-      let place : length xs + 1 ≡ kind = ap (λ n. n + 1) (length-map h.front type_of) ∙ h.place in
+      let place : length xs + 1 ≡ kind = ap (λ n. n + 1) (length-map h.front type_of) ∙ here in
       let limited = (and_parts _ _ (and_parts (mask_fits c.nozzles e.mask) _ h.fine.0.held).1).0 in
       let types : xs ++ type_of e ∷ ys ≡ map type_of (h.front ++ e ∷ []) ++ ys = sym (append_assoc xs (type_of e ∷ []) ys) ∙ ap (λ l. l ++ ys) (sym (map_push type_of h.front e)) in
       record {
         front = h.front ++ e ∷ [];
         split = append_assoc h.front (e ∷ []) es ∙ h.split;
-        place = ap (λ n. n + 1) (length_push h.front e ∙ h.place);
+        place = λ more. omega (arith, length_push h.front e, on more);
         formed = h.formed;
         fine = h.fine.1;
         state = entered number c.nozzles kind xs ys place e.quantity e.mask e.limit limited r h.state ∙ ap (λ l. fresh (book_with number l c.nozzles)) types;
-        turns = subst (λ ts. Run s₀ ts s') (sym (entries_push 1 kind h.front e h.place)) (turns_then h.turns r);
+        turns = subst (λ ts. Run s₀ ts s') (sym (entries_push 1 kind h.front e here)) (turns_then h.turns r);
       }
 
--- the numbers go up to 24, and there are no more records than numbers
-pub loading_none_left : (number : ℕ) (c : Contents) (s₀ s : State) (kind end : ℕ) (es : List Entry) → Loading number c s₀ s kind es → end ≡ 25 → end - kind ≡ 0 → es ≡ []
-loading_none_left number c s₀ s kind end [] h is none = refl
-loading_none_left number c s₀ s kind end (e ∷ es) h is none = absurd (omega (arith, h.place, h.formed.few_types, h.formed.count, ap length h.split, length-append h.front (e ∷ es)))
+pub none_left : (es : List Entry) → length es ≤ 0 → es ≡ []
+none_left [] few = refl
+none_left (e ∷ es) few = absurd (omega arith)
 
 -- the whole file is loaded
 pub loads_by_turns : (bs : List ℕ) (number kind k r : ℕ) (c : Contents) (g : Result Contents FileFault) (j j₁ j' : Job) (rest : List Entry) → Ok c ≡ g → k ≡ c.types → r ≡ c.nozzles → Accepted (state_of j) (opening number k r) done (state_of j₁) → Loading number c (state_of j₁) (state_of j') kind rest → rest ≡ [] → LoadsByTurns number g j j'

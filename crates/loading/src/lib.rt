@@ -41,7 +41,7 @@ pub fn load(job: &mut Job, number: u32, bytes: &[u8]) -> Result<(), JobFault>
 {
     let reader = Reader::open(bytes)?;
     job.open(number, reader.types(), reader.nozzles())?;
-    for (kind, record) in (1..MOST_TYPES + 1).zip(reader) {
+    for (kind, record) in (1..=MOST_TYPES).zip(reader) {
         enter(job, kind, record)?;
     }
     Ok(())

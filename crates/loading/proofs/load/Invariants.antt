@@ -1,4 +1,4 @@
-use Rattle.std.proofs.Common.{◌≡◌}
+use Rattle.std.proofs.Common.{◌≤◌, length}
 use Rattle.jobfile.specs.Opened.{held, contents_of}
 use Rattle.job.specs.Jobs.{state_of}
 use Rattle.loading.proofs.Entered.{Loading}
@@ -7,5 +7,5 @@ use Rattle.loading.proofs.load.Given as goal
 abbrev pub invariant-loop-kind : goal.invariant-loop-kind
 invariant-loop-kind l = record {
   entered : Loading l.number (contents_of l.initial.kind-iterator.b) (state_of l.initial.job) (state_of l.job) l.kind-iterator.a.start (held l.kind-iterator.b);
-  end : l.kind-iterator.a.end ≡ 25;
+  few : length (held l.kind-iterator.b) ≤ (goal.iterator-loop-kind).remaining l.kind-iterator;
 }
