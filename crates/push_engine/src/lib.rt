@@ -3,7 +3,6 @@
 
 mod engine;
 mod preflow;
-mod queue;
 mod work;
 
 pub use engine::{PreflowPush, PushEngine};

@@ -1,13 +1,12 @@
 // What is done at one node after another, until nothing is left to be done.
 ghost use Rattle.std.specs.Prelude.{◌≡◌, ℕ, true, length};
-ghost use Rattle.line.specs.Waiting.{waiting};
 ghost use Rattle.push_engine.specs.Preflows.{Holds, pending, pushable, sent, raised};
 ghost use Rattle.push_engine.specs.Props.{Holds-prop};
 ghost use Rattle.push_engine.specs.Moves.{CanPush, CanRelabel, Stepped, Settled};
 ghost use Rattle.push_engine.specs.Lines.{Queued, QueuedBut, Taken, Drained};
 
 use crate::preflow::Preflow;
-use crate::queue::Queue;
+use line::NodeLine;
 use path_engine::{far_end, residual_from};
 
 /// A preflow between two moves.
@@ -20,12 +19,12 @@ struct Work<'a> {
 impl Work<'_> {
     // Pushes as much as can go from a node by an arc. The other end joins the queue, if only now
     // something is to be done there.
-    fn push(&mut self, queue: &mut Queue<'_>, node: u8, k: usize)
-        requires taken { Taken self.old.preflow node (waiting queue.old.line) }
+    fn push(&mut self, queue: &mut NodeLine<'_, u8>, node: u8, k: usize)
+        requires taken { Taken self.old.preflow node queue.old }
         requires can { CanPush self.old.preflow node k }
         ensures pushed { self.new.preflow
             ≡ sent self.old.preflow k node (pushable self.old.preflow k node) }
-        ensures queued { QueuedBut self.new.preflow node (waiting queue.new.line) }
+        ensures queued { QueuedBut self.new.preflow node queue.new }
     {
         let preflow = &mut self.preflow;
         let arc = preflow.arcs()[k];
@@ -34,30 +33,30 @@ impl Work<'_> {
         let most = residual_from(arc, preflow.flow[k], preflow.task.limit, node);
         preflow.send(k, node, most.min(preflow.excess(node)));
         if !waited && preflow.is_pending(to) {
-            queue.join(to);
+            queue.push(to);
         }
     }
 
     // Raises a node that has left the queue. It joins the queue again, if something is still to be
     // done there.
-    fn relabel(&mut self, queue: &mut Queue<'_>, node: u8, height: u8)
-        requires taken { Taken self.old.preflow node (waiting queue.old.line) }
+    fn relabel(&mut self, queue: &mut NodeLine<'_, u8>, node: u8, height: u8)
+        requires taken { Taken self.old.preflow node queue.old }
         requires can { CanRelabel self.old.preflow node height
             (length self.old.preflow.task.arcs.now) }
         ensures raised { self.new.preflow ≡ raised self.old.preflow node height }
-        ensures queued { Queued self.new.preflow (waiting queue.new.line) }
+        ensures queued { Queued self.new.preflow queue.new }
     {
         self.preflow.nodes[node as usize].height = height;
         if self.preflow.is_pending(node) {
-            queue.join(node);
+            queue.push(node);
         }
     }
 
     // Pushes from a node to lower ones, until nothing waits there, or says how high the node is to
     // be raised: one above the lowest node to which more could go, and at most to its ceiling.
-    fn push_down(&mut self, queue: &mut Queue<'_>, node: u8) -> Option<u8>
-        requires { Taken self.old.preflow node (waiting queue.old.line) }
-        ensures { Drained self.old.preflow node self.new.preflow (waiting queue.new.line) result }
+    fn push_down(&mut self, queue: &mut NodeLine<'_, u8>, node: u8) -> Option<u8>
+        requires { Taken self.old.preflow node queue.old }
+        ensures { Drained self.old.preflow node self.new.preflow queue.new result }
     {
         let height = self.preflow.height(node);
         let mut next = self.preflow.ceiling(node);
@@ -80,10 +79,10 @@ impl Work<'_> {
     }
 
     // Works at a node that has left the queue, until nothing waits there or the node is raised.
-    fn discharge(&mut self, queue: &mut Queue<'_>, node: u8)
-        requires { Taken self.old.preflow node (waiting queue.old.line) }
+    fn discharge(&mut self, queue: &mut NodeLine<'_, u8>, node: u8)
+        requires { Taken self.old.preflow node queue.old }
         ensures stepped { Stepped self.old.preflow self.new.preflow }
-        ensures queued { Queued self.new.preflow (waiting queue.new.line) }
+        ensures queued { Queued self.new.preflow queue.new }
     {
         if let Some(height) = self.push_down(queue, node) {
             self.relabel(queue, node, height);
@@ -99,12 +98,12 @@ impl<'a> Preflow<'a> {
         ensures { Settled self.entry.task result }
     {
         let mut places = [0; 64];
-        let mut queue = Queue::new(&mut places);
+        let mut queue = NodeLine::new(&mut places);
         if self.is_pending(0) {
-            queue.join(0);
+            queue.push(0);
         }
         let mut work = Work { preflow: self };
-        while let Some(node) = queue.next() {
+        while let Some(node) = queue.pop() {
             work.discharge(&mut queue, node);
         }
         work.preflow

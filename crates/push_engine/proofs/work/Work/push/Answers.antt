@@ -1,5 +1,4 @@
 use Rattle.std.proofs.Common.{sym, ◌∙◌, inl, inr, arith}
-use Rattle.line.specs.Waiting.{waiting}
 use Rattle.push_engine.specs.Preflows.{pending}
 use Rattle.push_engine.proofs.Queues.{free_idle}
 use Rattle.push_engine.proofs.Pending.{pends, past, to_in, push_quiet, push_joins}
@@ -19,26 +18,26 @@ invariant_of-self-else-not-waited c =
     let most = rw c.arcs.ensures at c.residual_from-most.ensures in
     record { holds = (pushed p _ c.args.node c.args.k c.min.result c.args.self.now.holds c.requires.taken.waits c.requires.can (omega arith) c.send.ensures).holds }
 
-pub join-requires : goal.join-requires
-join-requires c =
+pub push-requires : goal.push-requires
+push-requires c =
     let p = c.args.self.now.preflow in
     let to = rw c.arcs.ensures at c.far_end-to.ensures in
     let far = to_in p _ c.args.node c.args.k _ _ c.args.self.now.holds (pends p c.args.node c.requires.taken.waits).inside c.requires.can.inside (omega arith) to c.send.ensures in
-    free_idle (pending p) c.args.node (waiting c.args.queue.now.line) c.requires.taken.queued 64 c.far_end-to.result (past p) far (sym c.is_pending-waited.ensures ∙ c.if-not-waited.true)
+    free_idle (pending p) c.args.node c.args.queue.now c.requires.taken.queued 64 c.far_end-to.result (past p) far (sym c.is_pending-waited.ensures ∙ c.if-not-waited.true)
 
 pub returns-then-is_pending-clause-queued : goal.returns-then-is_pending-clause-queued
 returns-then-is_pending-clause-queued c =
     let p = c.args.self.now.preflow in
     let to = rw c.arcs.ensures at c.far_end-to.ensures in
     push_joins p c.send.new.self c.args.node c.args.k _ c.far_end-to.result c.args.self.now.holds (pends p c.args.node c.requires.taken.waits).inside c.requires.can.inside (omega arith) to c.send.ensures
-    (waiting c.args.queue.now.line) _ c.requires.taken.queued c.join.ensures (sym c.is_pending-waited.ensures ∙ c.if-not-waited.true) (sym c.is_pending.ensures ∙ c.if-is_pending.true)
+    c.args.queue.now _ c.requires.taken.queued c.push.ensures (sym c.is_pending-waited.ensures ∙ c.if-not-waited.true) (sym c.is_pending.ensures ∙ c.if-is_pending.true)
 
 pub returns-else-not-waited-clause-queued : goal.returns-else-not-waited-clause-queued
 returns-else-not-waited-clause-queued c =
     let p = c.args.self.now.preflow in
     let to = rw c.arcs.ensures at c.far_end-to.ensures in
     let out = push_quiet p c.send.new.self c.args.node c.args.k _ c.far_end-to.result c.args.self.now.holds (pends p c.args.node c.requires.taken.waits).inside c.requires.can.inside (omega arith) to c.send.ensures
-    (waiting c.args.queue.now.line) c.requires.taken.queued in
+    c.args.queue.now c.requires.taken.queued in
     elim c.else-not-waited.branch [
       | else-not-waited-via-then-not-waited+else-is_pending w ↦ rw w.self-is (out (inr (sym c.is_pending-waited.ensures ∙ w.if-not-waited.true, sym w.is_pending.ensures ∙ w.if-is_pending.false)))
       | else-not-waited-via-else-not-waited w ↦ rw w.self-is (out (inl (sym c.is_pending-waited.ensures ∙ w.if-not-waited.false)))

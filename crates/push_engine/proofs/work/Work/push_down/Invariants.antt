@@ -1,5 +1,4 @@
 use Rattle.std.proofs.Common.{◌≡◌}
-use Rattle.line.specs.Waiting.{waiting}
 use Rattle.push_engine.specs.Moves.{CanRelabel}
 use Rattle.push_engine.specs.Lines.{Working}
 use Rattle.push_engine.proofs.work.Work.push_down.Given as goal
@@ -8,6 +7,6 @@ abbrev pub invariant-loop-k : goal.invariant-loop-k
 invariant-loop-k l =
     record {
       arcs : l.arcs ≡ l.self.preflow.task.arcs.now;
-      working : Working l.initial.self.preflow l.node l.self.preflow (waiting l.queue.line);
+      working : Working l.initial.self.preflow l.node l.self.preflow l.queue;
       next : CanRelabel l.self.preflow l.node l.next l.k;
     }

@@ -1,5 +1,4 @@
 use Rattle.std.proofs.Common.{sym, arith}
-use Rattle.line.specs.Waiting.{waiting}
 use Rattle.push_engine.specs.Preflows.{pending}
 use Rattle.push_engine.proofs.Pushes.{raise_steps}
 use Rattle.push_engine.proofs.Queues.{free_self, rested, back}
@@ -12,15 +11,15 @@ invariant_of-self c =
     let v = pends p c.args.node c.requires.taken.waits in
     record { holds = (raise_steps p c.args.node c.args.height c.args.self.now.holds v.inside v.no_sink c.requires.can).holds }
 
-pub join-requires : goal.join-requires
-join-requires c =
+pub push-requires : goal.push-requires
+push-requires c =
     let p = c.args.self.now.preflow in
-    free_self (pending p) c.args.node (waiting c.args.queue.now.line) c.requires.taken.queued 64 (past p) (omega (arith, (pends p c.args.node c.requires.taken.waits).inside, p.task.counts.1))
+    free_self (pending p) c.args.node c.args.queue.now c.requires.taken.queued 64 (past p) (omega (arith, (pends p c.args.node c.requires.taken.waits).inside, p.task.counts.1))
 
 pub returns-then-is_pending-clause-queued : goal.returns-then-is_pending-clause-queued
 returns-then-is_pending-clause-queued c =
-    back _ c.args.node (waiting c.args.queue.now.line) (raised_but c.args.self.now.preflow c.args.node c.args.height _ c.requires.taken.queued) _ c.join.ensures (sym c.if-is_pending.ensures)
+    back _ c.args.node c.args.queue.now (raised_but c.args.self.now.preflow c.args.node c.args.height _ c.requires.taken.queued) _ c.push.ensures (sym c.if-is_pending.ensures)
 
 pub returns-else-is_pending-clause-queued : goal.returns-else-is_pending-clause-queued
 returns-else-is_pending-clause-queued c =
-    rested _ c.args.node (waiting c.args.queue.now.line) (raised_but c.args.self.now.preflow c.args.node c.args.height _ c.requires.taken.queued) (sym c.if-is_pending.ensures)
+    rested _ c.args.node c.args.queue.now (raised_but c.args.self.now.preflow c.args.node c.args.height _ c.requires.taken.queued) (sym c.if-is_pending.ensures)
