@@ -2,9 +2,8 @@
 // `push` for ENGINE.
 #![tactic(auto)]
 
-ghost use Rattle.std.specs.Prelude.{◌≡◌, ◌+◌, ◌-◌, ◌^◌, min};
-ghost use Rattle.book.specs.Books.{runs_of};
-ghost use Rattle.bench.specs.Costs.{cost_of};
+ghost use Rattle.std.specs.Prelude.{◌≡◌, ◌+◌, ◌-◌, ◌^◌, min, MatchOption};
+ghost use Rattle.book.specs.Books.{cost_in, runs_of};
 
 use anyhow::anyhow;
 use book::{JobFault, Outcome};
@@ -28,7 +27,7 @@ struct Sums {
 impl Sums {
     /// Adds one planning more; a short one has no cost.
     fn add(&mut self, outcome: Outcome)
-        ensures cost { self.new.cost ≡ min (self.old.cost + cost_of outcome) (2 ^ 64 - 1) }
+        ensures cost { MatchOption (cost_in outcome) (self.new.cost ≡ self.old.cost) (λ cost. self.new.cost ≡ min (self.old.cost + cost) (2 ^ 64 - 1)) }
         ensures runs { self.new.runs ≡ min (self.old.runs + runs_of outcome) (2 ^ 64 - 1) }
     {
         if let Some(cost) = outcome.cost() {
