@@ -15,27 +15,16 @@ use Rattle.records.specs.declared.TypeRecord.{TypeRecord}
 use Rattle.sheets.specs.declared.Order.{Order}
 use Rattle.sheets.specs.Sheets.{IsSheet, in_service}
 use Rattle.sheets.specs.Boards.{entered, total, node_count, may, supply, choice, board_arcs, sheet_of}
-use Rattle.sheets.proofs.Sums.{sum_most, sum_none_of, only_le, only_none}
+use Rattle.sheets.proofs.Sums.{count_le, sum_none_of, only_none}
 use Rattle.sheets.proofs.Arcs.{sum_arcs_lem}
+use Rattle.sheets.proofs.Rules.{counted_service}
 use Rattle.sheets.proofs.Fewest.{flow_sheet, no_sheet, none_fewer}
 use Rattle.book.specs.Books.{orders_in}
 use Rattle.book.specs.Keeps.{nodes_in, arcs_in, total_in, in_service_count, nozzles_across, TrailKept, PlannedKept, ShortKept}
 use Rattle.book.proofs.Orders.{orders_are, complete}
 
--- the counted arcs of a board are the arcs of its nozzles in service
-module _ (orders : List Order) (nozzles : List NozzleState) where
-  pub counted_service : counted_arcs (board_arcs orders nozzles) ≡ in_service_count nozzles
-  counted_service =
-      omega (
-        arith,
-        sum_arcs_lem orders nozzles [] (λ a x. counted_of a.capacity),
-        sum_none _ (length orders) (λ t h. refl),
-        sum_none_of _ (length orders) (length nozzles) (λ t j h l. only_none (may orders nozzles t j) 0 (λ m. refl)),
-      )
-
 pub service_few : (nozzles : List NozzleState) → in_service_count nozzles ≤ length nozzles
-service_few nozzles =
-    let e = sum_most (λ j. only (in_service nozzles j) 1) 1 (length nozzles) (λ j l. only_le (in_service nozzles j) 1 1 (λ m. omega arith)) in omega arith
+service_few nozzles = count_le (in_service nozzles) (length nozzles)
 
 module _ (types : List TypeRecord) (nozzles : List NozzleState) where
   abbrev orders : List Order

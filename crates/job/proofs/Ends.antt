@@ -5,15 +5,11 @@ use Rattle.limit_search.specs.declared.Found.{Found}
 use Rattle.limit_search.specs.declared.Found.TheVariants.{Planned, Short}
 use Rattle.limit_search.specs.Trails as search
 use Rattle.sheets.specs.Boards.{entered}
-use Rattle.book.specs.Books.{Book, orders_in, runs_of, with_outcome, outcome_of}
+use Rattle.book.specs.Books.{Book, orders_in, with_outcome, outcome_of}
 use Rattle.book.specs.Events.{Promise, IsEnd}
 use Rattle.book.specs.Keeps.{nodes_in, arcs_in, total_in}
 use Rattle.book.proofs.Ended.{planned_kept, short_kept}
 use Rattle.job.specs.Jobs.{plan_state}
-
-pub same_runs : (f : Found) → runs_of (outcome_of f) ≡ search.runs_of f
-same_runs (Planned cost runs) = refl
-same_runs (Short limit cut runs) = refl
 
 pub kept_end : (b : Book) (trail : List Step) (flow : List ℕ) → map entered (orders_in b.types) ≡ b.types → (f : Found)
     → search.Ends (nodes_in b.types b.nozzles) (total_in b.types) (arcs_in b.types b.nozzles) trail flow f

@@ -1,6 +1,5 @@
 // Boards of books, and books that are none.
 use limit_search::{Found, Step, search};
-use network::Side;
 use path_engine::PathEngine;
 use sheets::{Board, BoardFault, NozzleState, TypeRecord};
 use std::process::Abort;
@@ -22,37 +21,21 @@ const GAP: TypeRecord = TypeRecord {
     limit: None,
 };
 
-fn is_refused(
-    rt: &impl Abort,
-    types: &[TypeRecord],
-    nozzles: &[NozzleState],
-    fault: BoardFault,
-) -> Result<(), Fail> {
-    match Board::of(types, nozzles) {
-        Ok(_) => Err(Fail::new("a board")),
-        Err(found) => {
-            assert_eq!(rt; found, fault);
-            Ok(())
-        },
-    }
+fn is_refused(rt: &impl Abort, types: &[TypeRecord], nozzles: &[NozzleState], fault: BoardFault) {
+    assert_eq!(rt; Board::of(types, nozzles).err(), Some(fault));
 }
 
 #[test]
-fn gaps_and_sizes(rt: HostRuntime) -> Result<(), Fail> {
-    is_refused(&rt, &[], &TWO, BoardFault::BadSize)?;
-    is_refused(&rt, &[GAP; 25], &TWO, BoardFault::BadSize)?;
-    is_refused(&rt, &[GAP], &[], BoardFault::BadSize)?;
-    is_refused(&rt, &[GAP], &[NozzleState::Out; 9], BoardFault::BadSize)?;
-    is_refused(&rt, &[GAP], &TWO, BoardFault::NotEntered { kind: 1 })?;
+fn gaps_and_sizes(rt: HostRuntime) {
+    is_refused(&rt, &[], &TWO, BoardFault::BadSize);
+    is_refused(&rt, &[GAP; 25], &TWO, BoardFault::BadSize);
+    is_refused(&rt, &[GAP], &[], BoardFault::BadSize);
+    is_refused(&rt, &[GAP], &[NozzleState::Out; 9], BoardFault::BadSize);
+    is_refused(&rt, &[GAP], &TWO, BoardFault::NotEntered { kind: 1 });
     let zero = entered(0, 1);
-    is_refused(
-        &rt,
-        &[zero, GAP, GAP],
-        &TWO,
-        BoardFault::NotEntered { kind: 2 },
-    )?;
+    let types = [zero, GAP, GAP];
+    is_refused(&rt, &types, &TWO, BoardFault::NotEntered { kind: 2 });
     assert!(rt; Board::of(&[zero], &TWO).is_ok(), "0 is entered");
-    Ok(())
 }
 
 /// How the search ends on a board, and the row of its first and last subtour.
@@ -60,26 +43,17 @@ fn planned(
     types: &[TypeRecord],
     nozzles: &[NozzleState],
 ) -> Result<(Found, [u8; 3], [u8; 3]), Fail> {
-    let Ok(board) = Board::of(types, nozzles) else {
-        return Err(Fail::new("no board"));
-    };
+    let board = Board::of(types, nozzles)?;
     let mut flow = [0; 256];
-    let unused = Step {
-        limit: 0,
-        size: 0,
-        side: Side { bits: 0 },
-    };
-    let mut trail = [unused; 9];
+    let mut trail = [Step::default(); 9];
     let net = board.network();
-    let Ok(found) = search(
+    let found = search(
         &net,
         board.total(),
         &mut PathEngine::new(),
         &mut flow,
         &mut trail,
-    ) else {
-        return Err(Fail::new("refused"));
-    };
+    )?;
     let mut first = [9; 3];
     let mut last = [9; 3];
     board.row(&flow, 0, &mut first);

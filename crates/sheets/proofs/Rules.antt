@@ -4,7 +4,7 @@ use Rattle.std.proofs.lemmas.Bool.{both_ways}
 use Rattle.std.proofs.lemmas.Bool.Decides.{nat_tests}
 use Rattle.flows.specs.declared.Arc.{Arc}
 use Rattle.flows.specs.Sums.{sum_to, only}
-use Rattle.flows.specs.Flows.{arc_at, fixed_of, counted_of}
+use Rattle.flows.specs.Flows.{arc_at, fixed_of, counted_of, counted_arcs}
 use Rattle.flows.proofs.Sums.{sum_none}
 use Rattle.network.specs.declared.faults.NetworkFault.{NetworkFault}
 use Rattle.network.specs.declared.faults.NetworkFault.TheVariants.{TooLarge, ShortTrail, BadCount, BadArc}
@@ -15,7 +15,7 @@ use Rattle.sheets.specs.Sheets.{in_service}
 use Rattle.sheets.specs.Boards.{order_at, total, may, node_count, most_of, board_arcs}
 use Rattle.sheets.specs.Laws.{Sized, BoardKeepsRules}
 use Rattle.sheets.proofs.Whole.{quantity_of}
-use Rattle.sheets.proofs.Sums.{sum_most, sum_ones, sum_none_of, only_le, only_none}
+use Rattle.sheets.proofs.Sums.{sum_most, count_le, sum_ones, sum_none_of, only_none}
 use Rattle.sheets.proofs.Arcs.{sum_arcs_lem, from_parts}
 
 most_small : (limit : Option ℕ) (all : ℕ) → all ≤ 2000000 → ((m : ℕ) → limit ≡ Some m → m ≤ 65535) → most_of limit all ≤ 2000000
@@ -53,27 +53,25 @@ module _ {orders : List Order} {nozzles : List NozzleState} (s : Sized orders no
         sum_arcs_lem orders nozzles [] (λ a x. 1),
         sum_ones true (length (board_arcs orders nozzles)),
         sum_ones true k,
-        sum_most (λ t. sum_to r (λ j. only (may orders nozzles t j) 1)) 8 k (λ t h. let e = sum_most (λ j. only (may orders nozzles t j) 1) 1 r (λ j l. only_le (may orders nozzles t j) 1 1 (λ m. omega arith)) in omega arith),
-        sum_most (λ j. only (in_service nozzles j) 1) 1 r (λ j l. only_le (in_service nozzles j) 1 1 (λ m. omega arith)),
+        sum_most (λ t. sum_to r (λ j. only (may orders nozzles t j) 1)) 8 k (λ t h. omega (arith, count_le (may orders nozzles t) r)),
+        count_le (in_service nozzles) r,
       )
 
   arc_ok_lem : (p : ℕ) → p < length (board_arcs orders nozzles) → arc_ok (node_count orders nozzles) (arc_at (board_arcs orders nozzles) p) ≡ true
   arc_ok_lem p h = let f = fine p h in grind (arith, nat_tests)
 
+-- its counted arcs are those of the nozzles in service
+pub counted_service : (orders : List Order) (nozzles : List NozzleState) → counted_arcs (board_arcs orders nozzles) ≡ sum_to (length nozzles) (λ j. only (in_service nozzles j) 1)
+counted_service orders nozzles =
+    omega (
+      arith,
+      sum_arcs_lem orders nozzles [] (λ a x. counted_of a.capacity),
+      sum_none _ (length orders) (λ t h. refl),
+      sum_none_of _ (length orders) (length nozzles) (λ t j h l. only_none (may orders nozzles t j) 0 (λ m. refl)),
+    )
+
 pub rules : BoardKeepsRules
-rules orders nozzles s =
-    record {
-      counts = (omega arith, omega arith, few s);
-      arcs = arc_ok_lem s;
-      small = total_small s;
-      counted =
-          omega (
-            arith,
-            sum_arcs_lem orders nozzles [] (λ a x. counted_of a.capacity),
-            sum_none _ (length orders) (λ t h. refl),
-            sum_none_of _ (length orders) (length nozzles) (λ t j h l. only_none (may orders nozzles t j) 0 (λ m. refl)),
-          );
-    }
+rules orders nozzles s = record { counts = (omega arith, omega arith, few s); arcs = arc_ok_lem s; small = total_small s; counted = counted_service orders nozzles }
 
 -- so the network layer never refuses it
 pub never : {orders : List Order} {nozzles : List NozzleState} → Sized orders nozzles → (nodes : ℕ) (arcs : List Arc) → nodes ≡ node_count orders nozzles → arcs ≡ board_arcs orders nozzles

@@ -71,6 +71,10 @@ pub only_le : (g : Bool) (x m : ℕ) → (g ≡ true → x ≤ m) → only g x �
 only_le true x m e = e refl
 only_le false x m e = omega arith
 
+-- at most each place counts
+pub count_le : (g : ℕ → Bool) (n : ℕ) → sum_to n (λ i. only (g i) 1) ≤ n
+count_le g n = let m = sum_most (λ i. only (g i) 1) 1 n (λ i h. only_le (g i) 1 1 (λ e. omega arith)) in omega arith
+
 pub sum_ones : (g : Bool) (n : ℕ) → sum_to n (λ i. only g 1) ≡ only g n
 sum_ones g zero = grind arith
 sum_ones g (suc n) = let i = sum_ones g n in grind arith

@@ -126,7 +126,8 @@ impl Board {
 
 // The arc between two nodes of a board's network.
 fn arc(tail: usize, head: usize, capacity: Capacity) -> Arc
-    requires { (tail < 256) × (head < 256) }
+    requires tail_fits { tail < 256 }
+    requires head_fits { head < 256 }
     ensures { result ≡ record { tail = tail; head = head; capacity = capacity } }
 {
     Arc {
