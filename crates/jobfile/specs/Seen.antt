@@ -13,13 +13,16 @@ abbrev pub stopped : {X : Type 0} → Stop → Parse X
 stopped Short = short
 stopped (Bad n) = bad n
 
+-- with f of the value that was read
+abbrev pub seen_as : {X Y : Type 0} → (X → Y) → Result (X × Bor (List ℕ)) Stop → Parse Y
+seen_as f (Ok p) = got (f p.0) p.1.now
+seen_as f (Err e) = stopped e
+
 abbrev pub seen : {X : Type 0} → Result (X × Bor (List ℕ)) Stop → Parse X
-seen (Ok p) = got p.0 p.1.now
-seen (Err e) = stopped e
+seen = seen_as (λ x. x)
 
 abbrev pub seen_name : Result (Bor (List ℕ) × Bor (List ℕ)) Stop → Parse (List ℕ)
-seen_name (Ok p) = got p.0.now p.1.now
-seen_name (Err e) = stopped e
+seen_name = seen_as (λ name. name.now)
 
 abbrev pub entry_with : TypeRecord → Option (List ℕ) → Entry
 entry_with f n = record { quantity = f.quantity; mask = f.mask; limit = f.limit; name = n }
@@ -37,8 +40,7 @@ abbrev pub entry_of : Record → Entry
 entry_of r = entry_with (fields_of r) (name_of r)
 
 abbrev pub seen_record : Result (Record × Bor (List ℕ)) Stop → Parse Entry
-seen_record (Ok p) = got (entry_of p.0) p.1.now
-seen_record (Err e) = stopped e
+seen_record = seen_as entry_of
 
 abbrev pub seen_rest : Result (Bor (List ℕ)) Stop → Parse (Unit {0})
 seen_rest (Ok p) = got tt p.now

@@ -1,5 +1,6 @@
 // Reading the front of a job file, field by field.
-ghost use Rattle.std.specs.Prelude.{◌≡◌, ◌^◌, nat_lt};
+ghost use Rattle.std.specs.Prelude.{◌≡◌, ◌^◌, ◌<◌, not, length, take, IfSome, nat_lt};
+ghost use Rattle.std.specs.List.{position_from};
 ghost use Rattle.jobformat.specs.Format.{graphic};
 ghost use Rattle.jobformat.specs.Reading.{Parse, number, mask, field_if, graphics, name, is_map, entry, records, header, forget};
 ghost use Rattle.jobfile.specs.Seen.{seen, seen_name, seen_record, seen_rest};
@@ -73,11 +74,19 @@ pub(crate) fn is_graphic(byte: u8) -> bool
     (33..=126).contains(&byte)
 }
 
+/// Where the first of `n` bytes stands that is no graphic.
+fn first_wrong(bytes: &[u8], n: usize) -> Option<usize>
+    ensures is { result ≡ position_from (λ b. not (graphic b)) 0 (take n bytes.now) }
+    ensures within { IfSome result (λ i. i < length bytes.now) }
+{
+    bytes.iter().take(n).position(|byte| !is_graphic(*byte))
+}
+
 /// The first `n` bytes, which are graphics, and what follows them.
 pub(crate) fn graphics(bytes: &[u8], n: usize) -> Result<(&[u8], &[u8]), Stop>
     ensures { seen_name result ≡ graphics bytes.now n }
 {
-    if let Some(i) = bytes.iter().take(n).position(|byte| !is_graphic(*byte)) {
+    if let Some(i) = first_wrong(bytes, n) {
         return Err(Stop::Bad(bytes.len() - i));
     }
     bytes.split_at_checked(n).ok_or(Stop::Short)
