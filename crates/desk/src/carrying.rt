@@ -3,7 +3,7 @@ ghost use Rattle.std.specs.Prelude.{◌≡◌, ℕ, ◌<◌, min, map, length, t
 ghost use Rattle.book.specs.Events.{Kept};
 ghost use Rattle.book.specs.Turns.{show_subtour, show_step};
 ghost use Rattle.job.specs.Jobs.{book_of, state_of};
-ghost use Rattle.desk.specs.Desks.{world, answered, free, Showing, Does, Carried, Recorded, Closed, PlanTurn};
+ghost use Rattle.desk.specs.Desks.{world, free, Showing, Does, Carried, Recorded, Closed, PlanTurn};
 ghost use Rattle.desk.specs.Racks.{Sound};
 
 use crate::slots::Slot;
@@ -11,13 +11,6 @@ use crate::{Answer, Request};
 use book::JobFault;
 use job::Job;
 use network::Engine;
-
-// How a turn without an answer of its own ended.
-fn answer(res: Result<(), JobFault>) -> Answer
-    ensures { result ≡ answered res }
-{
-    res.map_or_else(Answer::Refused, |()| Answer::Done)
-}
 
 // Plans with the engine at a place, if there is one.
 fn plan_with<E: Engine>(job: &mut Job, engines: &mut [E], place: usize) -> Answer
@@ -63,8 +56,8 @@ fn carry_one<E: Engine>(
     ensures { Does (world (state_of job.old) rack.old (map E.count engines.old)) request result (world (state_of job.new) rack.new (map E.count engines.new)) }
 {
     match request {
-        Request::EnterQuantity { kind, quantity } => answer(job.enter_quantity(kind, quantity)),
-        Request::EnterMask { kind, mask, limit } => answer(job.enter_mask(kind, mask, limit)),
+        Request::EnterQuantity { kind, quantity } => job.enter_quantity(kind, quantity).into(),
+        Request::EnterMask { kind, mask, limit } => job.enter_mask(kind, mask, limit).into(),
         Request::TakeOut { nozzle, slot } if slot < rack.len() => rack[slot].take_out(job, nozzle),
         Request::GiveBack { slot } if slot < rack.len() => rack[slot].give_back(job),
         Request::Scrap { slot } if slot < rack.len() => rack[slot].scrap(job),

@@ -4,6 +4,9 @@
 mod carrying;
 mod slots;
 
+ghost use Rattle.std.specs.Prelude.{◌≡◌};
+ghost use Rattle.desk.specs.Desks.{answered};
+
 use book::{JobFault, Outcome};
 pub use carrying::{carry_out, close};
 use limit_search::Step;
@@ -64,4 +67,13 @@ pub enum Answer {
     /// What each nozzle takes, in the first `count` bytes.
     Row { count: u8, bytes: [u8; 8] },
     Step(Step),
+}
+
+/// How a turn ended that has no answer of its own.
+impl From<Result<(), JobFault>> for Answer {
+    ghost from_gives = { λ ended answer. answer ≡ answered ended };
+
+    fn from(ended: Result<(), JobFault>) -> Answer {
+        ended.map_or_else(Answer::Refused, |()| Answer::Done)
+    }
 }

@@ -5,15 +5,10 @@
 ghost use Rattle.std.specs.Prelude.{Some};
 ghost use Rattle.jobformat.specs.Faults.{number_of, layer_of, place_of, fault_text};
 
+pub use records::{MOST_NOZZLES, MOST_TYPES};
 use refusals::Refusal;
 use std::error::Error;
 use std::fmt;
-
-/// A file has 1 to so many types, and a record for each.
-pub const MOST_TYPES: u8 = 24;
-
-/// A file has 1 to so many nozzles.
-pub const MOST_NOZZLES: u8 = 8;
 
 /// The longest record in bytes: its map, its fields, and a name of 20 bytes behind its length.
 pub const LONGEST_RECORD: usize = 27;

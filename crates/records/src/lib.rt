@@ -1,5 +1,11 @@
-// The record of a component type, in a job file and in a job.
+// The record of a component type, in a job file and in a job, and how many types and nozzles there can be.
 #![tactic(auto)]
+
+/// A file or a job has 1 to so many types.
+pub const MOST_TYPES: u8 = 24;
+
+/// A file or a job has 1 to so many nozzles.
+pub const MOST_NOZZLES: u8 = 8;
 
 /// What is entered of a component type: `None` is not entered, or no limit, and never 0. Bit j - 1
 /// of the mask stands for nozzle j. In a new record nothing is entered.

@@ -14,7 +14,7 @@ use line::{copy_to, line_of};
 use refusals::Refusal;
 
 /// How many nozzles a job may have.
-const MOST_NOZZLES: usize = 8;
+const MOST_NOZZLES: usize = records::MOST_NOZZLES as usize;
 
 /// Writes a line: a word, and numbers a space apart.
 fn put_line(word: &[u8], numbers: &[usize], out: &mut [u8]) -> Result<usize, JobFault>

@@ -45,19 +45,12 @@ impl Job {
         Ok(())
     }
 
-    // How many runs the last planning took.
-    fn runs(&self) -> usize
-        ensures { (result ≡ runs_of (book_of self.now).outcome) × (result ≤ 9) }
-    {
-        self.outcome.runs()
-    }
-
     /// A step of the trail of the last planning.
     pub fn show_step(&self, step: u32) -> Result<Step, JobFault>
         ensures shown { StepShown self.now step result }
         ensures kept { Kept (state_of self.now) }
     {
-        let runs = self.runs();
+        let runs = self.outcome.runs();
         if runs == 0 {
             return Err(JobFault::NoPlan);
         }

@@ -9,12 +9,8 @@ use super::{Job, Returned, Ticket};
 use arrayvec::ArrayVec;
 use book::{JobFault, Outcome};
 use limit_search::Step;
-use records::TypeRecord;
+use records::{MOST_NOZZLES, MOST_TYPES, TypeRecord};
 use sheets::NozzleState;
-
-const MOST_TYPES: u8 = 24;
-
-const MOST_NOZZLES: u8 = 8;
 
 // A table of so many times one item.
 fn filled<T: Copy + Default, const CAP: usize>(item: T, count: u8) -> ArrayVec<T, CAP>

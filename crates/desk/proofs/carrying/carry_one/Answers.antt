@@ -7,12 +7,12 @@ use Rattle.desk.proofs.carrying.carry_one.Goals as goal
 pub returns-in-EnterQuantity : goal.returns-in-EnterQuantity
 returns-in-EnterQuantity g c =
     let q = EnterQuantity c.in-EnterQuantity.kind c.in-EnterQuantity.quantity in
-    does_at _ q _ _ _ c.in-EnterQuantity.is (done_does c.args.job.now c.enter_quantity.new.self _ c.enter_quantity.result _ q _ _ c.enter_quantity.ensures (kept_of c.enter_quantity.new.self) c.answer.ensures refl (λ x. refl) (λ x. refl))
+    does_at _ q _ _ _ c.in-EnterQuantity.is (done_does c.args.job.now c.enter_quantity.new.self _ c.enter_quantity.result _ q _ _ c.enter_quantity.ensures (kept_of c.enter_quantity.new.self) c.into.ensures refl (λ x. refl) (λ x. refl))
 
 pub returns-in-EnterMask : goal.returns-in-EnterMask
 returns-in-EnterMask g c =
     let q = EnterMask c.in-EnterMask.kind c.in-EnterMask.mask c.in-EnterMask.limit in
-    does_at _ q _ _ _ c.in-EnterMask.is (done_does c.args.job.now c.enter_mask.new.self _ c.enter_mask.result _ q _ _ c.enter_mask.ensures (kept_of c.enter_mask.new.self) c.answer-in-EnterMask.ensures refl (λ x. refl) (λ x. refl))
+    does_at _ q _ _ _ c.in-EnterMask.is (done_does c.args.job.now c.enter_mask.new.self _ c.enter_mask.result _ q _ _ c.enter_mask.ensures (kept_of c.enter_mask.new.self) c.into-in-EnterMask.ensures refl (λ x. refl) (λ x. refl))
 
 pub returns-in-TakeOut : goal.returns-in-TakeOut
 returns-in-TakeOut g c =
