@@ -1,7 +1,7 @@
 // A waiting line with a place for each node.
-ghost use Rattle.std.specs.Prelude.{◌≡◌, ◌<◌, [], ◌∷◌, ◌++◌, length, MatchOption};
+ghost use Rattle.std.specs.Prelude.{◌≡◌, ◌<◌, ◌↔◌, [], ◌∷◌, ◌++◌, length, IsOk, OnOk, OnErr, MatchOption};
 
-use crate::line::Line;
+use crate::line::{Full, Line};
 use std::marker::Model;
 
 /// A waiting line with a place for each of the 64 nodes that a network can have.
@@ -32,12 +32,13 @@ impl<'a, T: Copy> NodeLine<'a, T> {
         }
     }
 
-    /// Puts `x` at the end of the line.
-    pub fn push(&mut self, x: T)
-        requires { length self.old < 64 }
-        ensures { self.new ≡ self.old ++ x ∷ [] }
+    /// Puts `x` at the end of the line. Refused exactly if 64 elements wait.
+    pub fn push(&mut self, x: T) -> Result<(), Full>
+        ensures room { IsOk result ↔ (length self.old < 64) }
+        ensures joined { OnOk result (self.new ≡ self.old ++ x ∷ []) }
+        ensures full { OnErr result (self.new ≡ self.old) }
     {
-        self.line.push(x).unwrap();
+        self.line.push(x)
     }
 
     /// Takes the element that has waited longest. There is none exactly if nothing waits.

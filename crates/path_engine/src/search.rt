@@ -73,7 +73,7 @@ impl Search {
             depth: near.depth + 1,
             room: step.residual.min(near.room),
         };
-        line.push(Visit { node: step.to, arc });
+        line.push(Visit { node: step.to, arc }).unwrap();
     }
 
     // Follows each arc of a node: what it leads to joins the line, if it is new and more can go
@@ -110,7 +110,7 @@ impl Search {
         let start = Visit { node: 0, arc: 0 };
         let mut places = [start; 64];
         let mut line = NodeLine::new(&mut places);
-        line.push(start);
+        line.push(start).unwrap();
         let mut search = Search::begin(most);
         while let Some(visit) = line.pop() {
             search.came[visit.node as usize] = visit.arc;

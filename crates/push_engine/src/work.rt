@@ -33,7 +33,7 @@ impl Work<'_> {
         let most = residual_from(arc, preflow.flow[k], preflow.task.limit, node);
         preflow.send(k, node, most.min(preflow.excess(node)));
         if !waited && preflow.is_pending(to) {
-            queue.push(to);
+            queue.push(to).unwrap();
         }
     }
 
@@ -48,7 +48,7 @@ impl Work<'_> {
     {
         self.preflow.nodes[node as usize].height = height;
         if self.preflow.is_pending(node) {
-            queue.push(node);
+            queue.push(node).unwrap();
         }
     }
 
@@ -100,7 +100,7 @@ impl<'a> Preflow<'a> {
         let mut places = [0; 64];
         let mut queue = NodeLine::new(&mut places);
         if self.is_pending(0) {
-            queue.push(0);
+            queue.push(0).unwrap();
         }
         let mut work = Work { preflow: self };
         while let Some(node) = queue.pop() {

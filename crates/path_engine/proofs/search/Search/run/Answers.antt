@@ -1,4 +1,4 @@
-use Rattle.std.proofs.Common.{[], ◌∷◌, ◌++◌, List, refl, ap, ◌∙◌}
+use Rattle.std.proofs.Common.{◌≡◌, [], ◌∷◌, ◌++◌, List, refl, ap, ◌∙◌, rules}
 use Rattle.line.specs.declared.node.Visit.{Visit}
 use Rattle.path_engine.specs.declared.search.Search.{Search}
 use Rattle.path_engine.specs.Searches.{room_at}
@@ -7,7 +7,8 @@ use Rattle.path_engine.proofs.search.Search.run.Goals as goal
 
 pub loop-visit-init : goal.loop-visit-init
 loop-visit-init c =
-    let queued = c.push.ensures ∙ ap (λ (w : List Visit). w ++ record { node = 0; arc = 0 } ∷ []) c.new-line.ensures in
+    let joined : c.push.new.self ≡ c.new-line.result ++ record { node = 0; arc = 0 } ∷ [] = search rules in
+    let queued = joined ∙ ap (λ (w : List Visit). w ++ record { node = 0; arc = 0 } ∷ []) c.new-line.ensures in
     (begins_as _ _ c.args.most _ _ _ c.requires c.begin-search.ensures queued, ap (λ (s : Search). room_at s 0) c.begin-search.ensures)
 
 pub expand-requires : goal.expand-requires

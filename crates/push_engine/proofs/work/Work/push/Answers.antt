@@ -1,4 +1,4 @@
-use Rattle.std.proofs.Common.{sym, ◌∙◌, inl, inr, arith}
+use Rattle.std.proofs.Common.{◌≡◌, [], ◌∷◌, ◌++◌, sym, ◌∙◌, inl, inr, arith, rules}
 use Rattle.push_engine.specs.Preflows.{pending}
 use Rattle.push_engine.proofs.Queues.{free_idle}
 use Rattle.push_engine.proofs.Pending.{pends, past, to_in, push_quiet, push_joins}
@@ -18,19 +18,20 @@ invariant_of-self-else-not-waited c =
     let most = rw c.arcs.ensures at c.residual_from-most.ensures in
     record { holds = (pushed p _ c.args.node c.args.k c.min.result c.args.self.now.holds c.requires.taken.waits c.requires.can (omega arith) c.send.ensures).holds }
 
-pub push-requires : goal.push-requires
-push-requires c =
+pub unwrap-requires : goal.unwrap-requires
+unwrap-requires c =
     let p = c.args.self.now.preflow in
     let to = rw c.arcs.ensures at c.far_end-to.ensures in
     let far = to_in p _ c.args.node c.args.k _ _ c.args.self.now.holds (pends p c.args.node c.requires.taken.waits).inside c.requires.can.inside (omega arith) to c.send.ensures in
-    free_idle (pending p) c.args.node c.args.queue.now c.requires.taken.queued 64 c.far_end-to.result (past p) far (sym c.is_pending-waited.ensures ∙ c.if-not-waited.true)
+    c.push.ensures.room.1 (free_idle (pending p) c.args.node c.args.queue.now c.requires.taken.queued 64 c.far_end-to.result (past p) far (sym c.is_pending-waited.ensures ∙ c.if-not-waited.true))
 
 pub returns-then-is_pending-clause-queued : goal.returns-then-is_pending-clause-queued
 returns-then-is_pending-clause-queued c =
     let p = c.args.self.now.preflow in
     let to = rw c.arcs.ensures at c.far_end-to.ensures in
+    let joined : c.push.new.self ≡ c.args.queue.now ++ c.far_end-to.result ∷ [] = search rules in
     push_joins p c.send.new.self c.args.node c.args.k _ c.far_end-to.result c.args.self.now.holds (pends p c.args.node c.requires.taken.waits).inside c.requires.can.inside (omega arith) to c.send.ensures
-    c.args.queue.now _ c.requires.taken.queued c.push.ensures (sym c.is_pending-waited.ensures ∙ c.if-not-waited.true) (sym c.is_pending.ensures ∙ c.if-is_pending.true)
+    c.args.queue.now _ c.requires.taken.queued joined (sym c.is_pending-waited.ensures ∙ c.if-not-waited.true) (sym c.is_pending.ensures ∙ c.if-is_pending.true)
 
 pub returns-else-not-waited-clause-queued : goal.returns-else-not-waited-clause-queued
 returns-else-not-waited-clause-queued c =
