@@ -1,7 +1,7 @@
 // Searches for the least limit.
 use super::samples::{amount, network_of};
 use limit_search::{Found, Step, search};
-use network::{Arc, Cut, Engine, NetworkFault, Side};
+use network::{Arc, Cut, Engine, NetworkFault, Refusal, Side};
 use path_engine::PathEngine;
 use push_engine::PushEngine;
 use std::process::Abort;
