@@ -74,10 +74,10 @@ impl Refusal for JobFault {
             JobFault::BadSize | JobFault::NoPlan => 0,
             JobFault::NoSuchType { kind }
             | JobFault::TooLarge { kind }
-            | JobFault::NotEntered { kind } => *kind as usize,
+            | JobFault::NotEntered { kind } => usize::from(*kind),
             JobFault::NoSuchNozzle { nozzle }
             | JobFault::NotInService { nozzle }
-            | JobFault::NotOut { nozzle } => *nozzle as usize,
+            | JobFault::NotOut { nozzle } => usize::from(*nozzle),
             JobFault::NoSuchPart { number } => *number as usize,
             JobFault::NoRoom { needed } => *needed,
             JobFault::File(fault) => fault.place(),

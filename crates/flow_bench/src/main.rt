@@ -5,12 +5,9 @@
 use anyhow::anyhow;
 use engines::AnyEngine;
 use network::{Amount, Answer, Arc, Engine, Network};
+use records::{MOST_NOZZLES as NOZZLES, MOST_TYPES as TYPES};
 use std::alloc::{AllocError, Global};
 use std::env;
-
-const TYPES: u8 = 24;
-
-const NOZZLES: u8 = 8;
 
 /// What is wanted: a million pieces.
 const WANTED: u32 = 1_000_000;

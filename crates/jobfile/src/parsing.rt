@@ -6,7 +6,7 @@ ghost use Rattle.jobformat.specs.Reading.{Parse, number, mask, field_if, graphic
 ghost use Rattle.jobfile.specs.Seen.{seen, seen_name, seen_record, seen_rest};
 
 use super::{Record, TypeRecord};
-use jobformat::{MOST_NOZZLES, MOST_TYPES};
+use jobformat::{LONGEST_NAME, MOST_NOZZLES, MOST_TYPES};
 
 /// Why reading stops: the bytes end, or one is wrong, with how many there are from it on.
 #[derive(Clone, Copy)]
@@ -97,7 +97,7 @@ pub(crate) fn name(bytes: &[u8]) -> Result<(&[u8], &[u8]), Stop>
 {
     match bytes {
         [] => Err(Stop::Short),
-        [n @ 1..=20, rest @ ..] => graphics(rest, usize::from(*n)),
+        [n @ 1..=LONGEST_NAME, rest @ ..] => graphics(rest, usize::from(*n)),
         _ => Err(Stop::Bad(bytes.len())),
     }
 }

@@ -88,9 +88,7 @@ impl<'a> Iterator for Reader<'a> {
         if left == 0 {
             return None;
         }
-        let Ok((record, after)) = read_record(rest, nozzles) else {
-            return None;
-        };
+        let (record, after) = read_record(rest, nozzles).ok()?;
         self.left = left - 1;
         self.rest = after;
         Some(record)

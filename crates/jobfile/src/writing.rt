@@ -8,7 +8,7 @@ ghost use Rattle.jobfile.specs.Writes.{Wrote, field_bytes};
 use super::Record;
 use super::parsing::{LIMIT, MASK, NAME, QUANTITY, is_graphic, is_mask};
 use arrayvec::ArrayVec;
-use jobformat::LONGEST_RECORD;
+use jobformat::{LONGEST_NAME, LONGEST_RECORD};
 
 pub(crate) fn all_graphic(name: &[u8]) -> bool
     ensures { result ≡ all_graphic name.now }
@@ -21,12 +21,12 @@ pub(crate) fn is_record(entry: Record<'_>, nozzles: u8) -> bool
     ensures { result ≡ fits nozzles (entry_of entry.entry) }
 {
     let fields = entry.fields();
-    let masked = match fields.mask {
-        Some(mask) => is_mask(mask, nozzles),
-        None => fields.limit.is_none(),
-    };
+    let masked = fields
+        .mask
+        .map_or(fields.limit.is_none(), |mask| is_mask(mask, nozzles));
     let named = match entry {
-        Record::Named { name, .. } => (1..=20).contains(&name.len()) && all_graphic(name),
+        Record::Named { name, .. } => (1..=usize::from(LONGEST_NAME)).contains(&name.len())
+            && all_graphic(name),
         Record::Bare { .. } => true,
     };
     masked && named

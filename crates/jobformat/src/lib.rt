@@ -10,6 +10,9 @@ use refusals::Refusal;
 use std::error::Error;
 use std::fmt;
 
+/// The longest name of a type in bytes.
+pub const LONGEST_NAME: u8 = 20;
+
 /// The longest record in bytes: its map, its fields, and a name of 20 bytes behind its length.
 pub const LONGEST_RECORD: usize = 27;
 

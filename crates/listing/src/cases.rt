@@ -12,7 +12,7 @@ use std::alloc::{AllocError, Global};
 const MOST: u32 = 4;
 
 /// What was tried.
-#[derive(Clone, Copy)]
+#[derive(Clone, Copy, Default)]
 pub(crate) struct Tally {
     pub(crate) networks: u32,
     pub(crate) runs: u32,
@@ -42,12 +42,7 @@ impl Trial {
                 AnyEngine::Path(PathEngine::new()),
                 AnyEngine::Push(PushEngine::new()),
             ],
-            tally: Tally {
-                networks: 0,
-                runs: 0,
-                searches: 0,
-                disagreements: 0,
-            },
+            tally: Tally::default(),
         }
     }
 

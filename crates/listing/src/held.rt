@@ -1,7 +1,7 @@
 // Whether a run and a search agree with the listing.
 use crate::listed::{Listing, bit};
 use limit_search::{Found, Step, search};
-use network::{Amount, Answer, Arc, Engine, Network, Side};
+use network::{Amount, Answer, Arc, Engine, Network};
 
 /// A small network, its arcs and how many nodes it has.
 #[derive(Clone, Copy)]
@@ -65,12 +65,7 @@ impl<'a> Case<'a> {
             return false;
         };
         let mut flow = [0; 256];
-        let unused = Step {
-            limit: 0,
-            size: 0,
-            side: Side { bits: 0 },
-        };
-        let mut trail = [unused; 10];
+        let mut trail = [Step::default(); 10];
         match search(self.net, size, engine, &mut flow, &mut trail) {
             Ok(Found::Planned { cost, .. }) => {
                 least == Some(cost as usize)

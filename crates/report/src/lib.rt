@@ -56,7 +56,7 @@ fn numbers_of(row: [u8; MOST_NOZZLES]) -> [usize; MOST_NOZZLES]
 pub fn subtour_line(job: &Job, subtour: u32, out: &mut [u8]) -> Result<usize, JobFault>
     ensures { Reported (subtour_refusal job.now subtour) (subtour_text job.now subtour) out.old result out.new }
 {
-    let count = job.nozzle_count() as usize;
+    let count = usize::from(job.nozzle_count());
     let mut row = [0; MOST_NOZZLES];
     job.show_subtour(subtour, &mut row[0..count])?;
     let numbers = numbers_of(row);

@@ -1,8 +1,11 @@
 // A board to plan: complete orders, and the states of the nozzles.
-ghost use Rattle.std.specs.Prelude.{◌≤◌, length};
+ghost use Rattle.std.specs.Prelude.{◌≤◌, Some, length};
+ghost use Rattle.sheets.specs.Faults.{fault_text};
 
 use crate::{NozzleState, Order};
 use arrayvec::ArrayVec;
+use std::error::Error;
+use std::fmt;
 
 mod calls;
 mod picks;
@@ -14,6 +17,21 @@ pub enum BoardFault {
     BadSize,
     NotEntered { kind: u8 },
 }
+
+impl fmt::Display for BoardFault {
+    ghost output = { λ fault. Some (fault_text fault) };
+
+    fn fmt<W: fmt::Write>(&self, f: &mut fmt::Formatter<W>) -> fmt::Result {
+        match self {
+            BoardFault::BadSize => write!(f, "not 1 to 24 types and 1 to 8 nozzles"),
+            BoardFault::NotEntered { kind } => {
+                write!(f, "a quantity or a mask of type {kind} was not entered")
+            }
+        }
+    }
+}
+
+impl Error for BoardFault {}
 
 /// A board: 1 to 24 orders and 1 to 8 nozzles. The unused places of the orders' table hold the
 /// first order.

@@ -1,5 +1,5 @@
 // What an order asks for, and which nozzles may take it.
-ghost use Rattle.std.specs.Prelude.{◌≡◌, ℕ, ◌<◌, ◌≤◌, false, ◌&&◌, Some, MatchResult};
+ghost use Rattle.std.specs.Prelude.{◌≡◌, ℕ, ◌<◌, ◌≤◌, false, ◌&&◌, Some, codes, MatchResult};
 ghost use Rattle.flows.specs.Flows.{inside};
 ghost use Rattle.sheets.specs.Sheets.{serves};
 ghost use Rattle.sheets.specs.Boards.{entered, is_entered, most_of};
@@ -7,10 +7,22 @@ ghost use Rattle.sheets.specs.Boards.{entered, is_entered, most_of};
 use crate::{NozzleState, Order};
 use records::TypeRecord;
 use std::default::MadeWith;
+use std::error::Error;
+use std::fmt;
 
 /// Why a record is no order: a quantity or a mask was not entered.
 #[derive(Clone, Copy, PartialEq, Eq, Debug)]
 pub struct NotEntered;
+
+impl fmt::Display for NotEntered {
+    ghost output = { λ _. Some (codes "a quantity or a mask was not entered") };
+
+    fn fmt<W: fmt::Write>(&self, f: &mut fmt::Formatter<W>) -> fmt::Result {
+        write!(f, "a quantity or a mask was not entered")
+    }
+}
+
+impl Error for NotEntered {}
 
 impl TryFrom<TypeRecord> for Order {
     type Error = NotEntered;

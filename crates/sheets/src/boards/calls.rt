@@ -9,26 +9,25 @@ use crate::boards::picks::Pick;
 use crate::boards::{Board, BoardFault};
 use crate::{NozzleState, Order};
 use arrayvec::ArrayVec;
-use flows::{Arc, Capacity};
+use flows::Arc;
 use network::{Amount, Network};
-use records::TypeRecord;
+use records::{MOST_NOZZLES, MOST_TYPES, TypeRecord};
 
 impl Board {
     /// The board of a book, or why there is none. A figure that was not entered is never filled in.
     pub fn of(types: &[TypeRecord], nozzles: &[NozzleState]) -> Result<Board, BoardFault>
         ensures { elim result [ Ok b ↦ (types.now ≡ map entered (orders_of b)) × (nozzles.now ≡ nozzles_of b) | Err e ↦ Refused types.now nozzles.now e ] }
     {
-        if !(1..=24).contains(&types.len()) || !(1..=8).contains(&nozzles.len()) {
+        if !(1..=usize::from(MOST_TYPES)).contains(&types.len())
+            || !(1..=usize::from(MOST_NOZZLES)).contains(&nozzles.len())
+        {
             return Err(BoardFault::BadSize);
         }
-        let Ok(first) = Order::try_from(types[0]) else {
-            return Err(BoardFault::NotEntered { kind: 1 });
-        };
+        let first = Order::try_from(types[0]).map_err(|_| BoardFault::NotEntered { kind: 1 })?;
         let mut orders = ArrayVec::new_in(first);
         for (t, record) in types.iter().enumerate() {
-            let Ok(order) = Order::try_from(*record) else {
-                return Err(BoardFault::NotEntered { kind: t as u8 + 1 });
-            };
+            let kind = t as u8 + 1;
+            let order = Order::try_from(*record).map_err(|_| BoardFault::NotEntered { kind })?;
             orders.push(order);
         }
         let nozzles = ArrayVec::try_from(nozzles).unwrap();
@@ -57,19 +56,19 @@ impl Board {
         let first = orders.len() + 2;
         let mut arcs = ArrayVec::new();
         for (t, order) in orders.iter().enumerate() {
-            arcs.push(arc(0, t + 2, Capacity::Fixed(order.pieces())));
+            arcs.push(Arc::fixed(0, (t + 2) as u8, order.pieces()));
         }
         for (t, order) in orders.iter().enumerate() {
             let most = order.most(all);
             for (j, nozzle) in nozzles.iter().enumerate() {
                 if order.goes_to(nozzle, j as u8) {
-                    arcs.push(arc(t + 2, first + j, Capacity::Fixed(most)));
+                    arcs.push(Arc::fixed((t + 2) as u8, (first + j) as u8, most));
                 }
             }
         }
         for (j, nozzle) in nozzles.iter().enumerate() {
             if nozzle.is_in_service() {
-                arcs.push(arc(first + j, 1, Capacity::Counted));
+                arcs.push(Arc::counted((first + j) as u8, 1));
             }
         }
         arcs
@@ -121,18 +120,5 @@ impl Board {
         let row = self.next_pieces(flow, subtour);
         let count = out.len().min(self.nozzles.len());
         out[..count].copy_from_slice(&row[..count]);
-    }
-}
-
-// The arc between two nodes of a board's network.
-fn arc(tail: usize, head: usize, capacity: Capacity) -> Arc
-    requires tail_fits { tail < 256 }
-    requires head_fits { head < 256 }
-    ensures { result ≡ record { tail = tail; head = head; capacity = capacity } }
-{
-    Arc {
-        tail: tail as u8,
-        head: head as u8,
-        capacity,
     }
 }

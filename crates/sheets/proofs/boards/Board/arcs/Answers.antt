@@ -21,7 +21,7 @@ loop-j-preserved c =
       | then-goes_to w ↦
           rw w.arcs-is (
             join_more S C (choices orders nozzles t) j _ _ _ c.loop-j.invariant.0 w.push-then-goes_to.ensures.items
-                (rw (is ∙ w.if-goes_to.true) (cc (all, c.total.ensures, c.value-all.ensures, c.most-most.ensures.value, w.arc-then-goes_to.ensures))),
+                (rw (is ∙ w.if-goes_to.true) (cc (all, c.total.ensures, c.value-all.ensures, c.most-most.ensures.value, w.fixed-then-goes_to.ensures))),
             omega arith,
           )
       | else-goes_to w ↦ rw w.arcs-is (join_past S C (choices orders nozzles t) j _ _ c.loop-j.invariant.0 refl (rw (is ∙ w.if-goes_to.false)), omega arith)
@@ -48,7 +48,7 @@ loop-j-2-preserved c =
       | then-is_in_service w ↦
           rw w.arcs-is (
             join_more S C (exits orders nozzles) j _ _ _ c.loop-j-2.invariant.0 w.push-then-is_in_service.ensures.items
-                (rw (is ∙ w.if-is_in_service.true) (cc w.arc-then-is_in_service.ensures)),
+                (rw (is ∙ w.if-is_in_service.true) (cc w.counted.ensures)),
             omega arith,
           )
       | else-is_in_service w ↦ rw w.arcs-is (join_past S C (exits orders nozzles) j _ _ c.loop-j-2.invariant.0 refl (rw (is ∙ w.if-is_in_service.false)), omega arith)
