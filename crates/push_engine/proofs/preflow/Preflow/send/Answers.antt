@@ -10,6 +10,7 @@ overflow_sub-self c = omega (arith, excess_at c.args.self.now c.args.node, c.req
 pub overflow_add-self : goal.overflow_add-self
 overflow_add-self c =
     let p = c.args.self.now in
+    let to = rw c.arcs.ensures at c.far_end.ensures in
     let far = end_in p.task c.args.k c.args.node c.requires.inside in
-    let gets = gets_le p.task p.flow (excess_of p) c.requires.holds.load c.args.node c.far_end.result c.args.amount c.requires.node (rw c.far_end.ensures far) c.requires.waits in
+    let gets = gets_le p.task p.flow (excess_of p) c.requires.holds.load c.args.node c.far_end.result c.args.amount c.requires.node (rw to far) c.requires.waits in
     omega (arith, excess_taken p c.args.amount c.args.node c.far_end.result, p.task.wanted.small)
