@@ -11,7 +11,8 @@ use Rattle.path_engine.specs.Searches.{arcs_in, nodes_in}
 use Rattle.push_engine.specs.declared.preflow.Task.{Task}
 use Rattle.push_engine.specs.declared.preflow.Preflow.{Preflow}
 use Rattle.push_engine.specs.Preflows.{limit_of, wanted_of, excess_of, heights_of, supply, Steep, Holds}
-use Rattle.push_engine.proofs.Pushes.{ends_at, end_in}
+use Rattle.path_engine.proofs.Arcs.{end_in}
+use Rattle.push_engine.proofs.Pushes.{ends_at}
 use Rattle.push_engine.proofs.Gaps.{IsGap, gap}
 
 above : (g a b : ℕ) → a ≤ b + 1 → b ≢ g → ltb g a ≡ true → ltb g b ≡ true
@@ -19,7 +20,7 @@ above g a b le ne lt = grind (arith, nat_tests)
 
 pub above_gap : (t : Task) (x d : List ℕ) (b g : ℕ) → Steep t x d → IsGap (λ v. get_or d v 0) (nodes_in t.net) b g → Closed (limit_of t) (arcs_in t.net) x (λ v. ltb g (get_or d v 0))
 above_gap t x d b g steep i k u k-in high more =
-    above g (get_or d u 0) (get_or d (end_at (arcs_in t.net) k u) 0) (steep k u k-in more) (i.free (end_at (arcs_in t.net) k u) (end_in t k u k-in)) high
+    above g (get_or d u 0) (get_or d (end_at (arcs_in t.net) k u) 0) (steep k u k-in more) (i.free (end_at (arcs_in t.net) k u) (end_in t.net.net.now k k-in u)) high
 
 -- a sum over the nodes of a set of what m arcs carry at the ends e: the sum over the arcs that end there
 module _ (p : ℕ → Bool) (n : ℕ) (e x : ℕ → ℕ) where

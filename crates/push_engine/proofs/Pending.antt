@@ -10,9 +10,10 @@ use Rattle.path_engine.specs.Residual.{far_end, end_at}
 use Rattle.path_engine.specs.Searches.{arcs_in, nodes_in}
 use Rattle.push_engine.specs.Preflows.{excess_of, heights_of, Holds, pending, sent, raised}
 use Rattle.push_engine.specs.Lines.{QueuedBut}
+use Rattle.path_engine.proofs.Arcs.{end_few}
 use Rattle.push_engine.proofs.Sums.{moved_at}
 use Rattle.push_engine.proofs.Nodes.{excess_sent, heights_sent, excess_raised, heights_raised}
-use Rattle.push_engine.proofs.Pushes.{Ends, ends_at, end_in}
+use Rattle.push_engine.proofs.Pushes.{Ends, ends_at}
 use Rattle.push_engine.proofs.Queues.{quiet, joined}
 
 -- what a pending node is
@@ -47,13 +48,13 @@ module _ (p q : Preflow) (v k m to : ℕ) (i : Holds p) (v-in : v < nodes_in p.t
   arcs = arcs_in p.task.net
 
   pub to_in : to < 64
-  to_in = rw is (omega (arith, end_in p.task k v k-in, p.task.net.net.now.counts.1))
+  to_in = rw is (end_few p.task.net.net.now k k-in v)
 
   apart : to ≢ v
   apart = rw is (far_apart (nodes_in p.task.net) (arc_at arcs k) v (ends_at p.task k k-in))
 
   excess_at : (u : ℕ) → get_or (excess_of q) u 0 + only (eqb v u) m ≡ get_or (excess_of p) u 0 + only (eqb to u) m
-  excess_at u = rw (e, is, excess_sent p k v m) (moved_at (excess_of p) m v (end_at arcs k v) le (omega (arith, p.task.net.net.now.counts.1, i.load.nodes_held)) (omega (arith, end_in p.task k v k-in, p.task.net.net.now.counts.1, i.load.nodes_held)) u)
+  excess_at u = rw (e, is, excess_sent p k v m) (moved_at (excess_of p) m v (end_at arcs k v) le (omega (arith, p.task.net.net.now.counts.1, i.load.nodes_held)) (omega (arith, end_few p.task.net.net.now k k-in v, i.load.nodes_held)) u)
 
   -- the amount is gone from v
   pub left_at : get_or (excess_of q) v 0 + m ≡ get_or (excess_of p) v 0

@@ -14,6 +14,7 @@ use Rattle.path_engine.specs.Searches.{arcs_in, nodes_in, residual_in}
 use Rattle.push_engine.specs.Preflows.{limit_of, wanted_of, excess_of, heights_of, ceiling, carried_after, Load, Steep, Holds, effort, sent, raised}
 use Rattle.push_engine.specs.Moves.{CanPush, CanRelabel, Stepped}
 use Rattle.flows.proofs.Sums.{sum_change, term_le}
+use Rattle.path_engine.proofs.Arcs.{end_in}
 use Rattle.push_engine.proofs.Nodes.{excess_sent, heights_sent, excess_raised, heights_raised}
 use Rattle.push_engine.proofs.Sums.{moved, weigh_set, moved_long, weigh_moved, moved_at}
 
@@ -27,14 +28,8 @@ pub record Ends (n : ℕ) (a : Arc) : Type 0 where
 ends : (n : ℕ) (a : Arc) → arc_ok n a ≡ true → Ends n a
 ends n a h = record { tail_in = grind (arith, nat_tests); head_in = grind (arith, nat_tests); apart = λ e. grind (arith, nat_tests); no_entry = λ e. grind (arith, nat_tests) }
 
-far_in : (n : ℕ) (a : Arc) (v : ℕ) → Ends n a → far_end a v < n
-far_in n a v e = let t = e.tail_in in let h = e.head_in in grind arith
-
 pub ends_at : (t : Task) (k : ℕ) → k < length (arcs_in t.net) → Ends (nodes_in t.net) (arc_at (arcs_in t.net) k)
 ends_at t k h = ends (nodes_in t.net) (arc_at (arcs_in t.net) k) (t.net.net.now.rules k h)
-
-pub end_in : (t : Task) (k v : ℕ) → k < length (arcs_in t.net) → end_at (arcs_in t.net) k v < nodes_in t.net
-end_in t k v h = far_in (nodes_in t.net) (arc_at (arcs_in t.net) k) v (ends_at t k h)
 
 -- the amount m leaves the node v by an arc
 module _ (L : ℕ) (a : Arc) (f v m : ℕ) (fits : m ≤ residual_of L a f v) where
@@ -105,7 +100,7 @@ module _ (p : Preflow) (v k m : ℕ) (i : Holds p) (v-in : v < nodes_in p.task.n
   y = carried_after (arc_at arcs k) (get_or x k 0) v m
 
   to_in : to < nodes_in t.net
-  to_in = end_in t k v w.inside
+  to_in = end_in t.net.net.now k w.inside v
 
   in_flow : k < length x
   in_flow = omega (arith, w.inside, t.net.net.now.counts.2, i.load.arcs_held)

@@ -32,7 +32,7 @@ module _ (p₀ p q : Preflow) (v k : ℕ) (w w' : List ℕ) (i : Working p₀ v 
   arcs = arcs_in p.task.net
 
   abbrev r : ℕ
-  r = residual (limit_of p.task) arcs p.flow k v
+  r = residual_in p.task.net p.flow k v
 
   abbrev m : ℕ
   m = pushable p k v
@@ -58,7 +58,7 @@ module _ (p₀ p q : Preflow) (v k : ℕ) (w w' : List ℕ) (i : Working p₀ v 
   others j ne = rw e (rw get_or-set_other refl)
 
   -- if something is left at v, the arc takes no more
-  used_up : 0 < get_or (excess_of q) v 0 → residual (limit_of p.task) arcs q.flow k v ≡ 0
+  used_up : 0 < get_or (excess_of q) v 0 → residual_in p.task.net q.flow k v ≡ 0
   used_up left =
       let gone = left_at p q v k m (end_at arcs k v) i.holds (pends p v i.waits).inside c.inside (omega arith) refl e in
       let all : m ≡ r = omega arith in
@@ -68,7 +68,7 @@ module _ (p₀ p q : Preflow) (v k : ℕ) (w w' : List ℕ) (i : Working p₀ v 
 
   pub raise_past : (h : ℕ) → CanRelabel p v h k → 0 < get_or (excess_of q) v 0 → CanRelabel q v h (k + 1)
   raise_past h u left =
-      let other : (j : ℕ) → j ≢ k → residual_in q.task.net q.flow j v ≡ residual (limit_of p.task) arcs p.flow j v = λ j ne. rw (step.same, others j ne) refl in
+      let other : (j : ℕ) → j ≢ k → residual_in q.task.net q.flow j v ≡ residual_in p.task.net p.flow j v = λ j ne. rw (step.same, others j ne) refl in
       let here : residual_in q.task.net q.flow k v ≡ 0 = rw step.same (used_up left) in
       record {
         higher = rw heights u.higher;

@@ -66,7 +66,7 @@ pub record Holds (p : Preflow) : Type 0 where
 -- still rise, weighed by more than all the excess
 abbrev pub effort : Preflow → ℕ
 effort p =
-    weigh (λ v. slice_index (heights_of p) v) (excess_of p) (nodes_in p.task.net) + sum_to (nodes_in p.task.net) (λ v. (wanted_of p.task + 1) * (2 * (nodes_in p.task.net) - slice_index (heights_of p) v))
+    weigh (λ v. slice_index (heights_of p) v) (excess_of p) (nodes_in p.task.net) + sum_to (nodes_in p.task.net) (λ v. (wanted_of p.task + 1) * (2 * nodes_in p.task.net - slice_index (heights_of p) v))
 
 -- whether something is to be done at a node: it is not node 1, something waits there, and it stands
 -- below its ceiling
