@@ -15,9 +15,12 @@ use Rattle.path_engine.specs.declared.search.Label.{Label}
 use Rattle.path_engine.specs.declared.search.Search.{Search}
 use Rattle.path_engine.specs.Residual.{end_at, residual, Closed, Shortest, Route}
 
--- the arcs of a network under a limit
+-- the arcs of a network under a limit, and how many nodes it has
 abbrev pub arcs_in : LimitedNet → List Arc
 arcs_in N = arcs_of N.net.now
+
+abbrev pub nodes_in : LimitedNet → ℕ
+nodes_in N = N.net.now.nodes
 
 -- how much more can leave u by its arc k
 abbrev pub residual_in : LimitedNet → List ℕ → ℕ → ℕ → ℕ

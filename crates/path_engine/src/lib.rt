@@ -7,4 +7,4 @@ mod search;
 mod steps;
 
 pub use engine::{PathEngine, ShortestPaths, reach};
-pub use steps::{far_end, residual_from};
+pub use steps::{LimitedNet, Step, far_end, residual_from};

@@ -1,7 +1,7 @@
 // The steps of the residual network: an arc, as one of its ends sees it.
 ghost use Rattle.std.specs.Prelude.{◌≡◌};
 ghost use Rattle.path_engine.specs.Residual.{far_end, residual_of};
-ghost use Rattle.path_engine.specs.Searches.{arcs_in};
+ghost use Rattle.path_engine.specs.Searches.{arcs_in, nodes_in};
 
 use flows::Arc;
 use network::{Amount, Network};
@@ -28,28 +28,35 @@ pub fn residual_from(arc: Arc, carried: u32, limit: Amount, node: u8) -> u32
 
 /// Where an arc leads from one of its ends, and how much more can go there.
 #[derive(Clone, Copy)]
-pub(crate) struct Step {
-    pub(crate) to: u8,
-    pub(crate) residual: u32,
+pub struct Step {
+    pub to: u8,
+    pub residual: u32,
 }
 
 /// A network under a limit.
 #[derive(Clone, Copy)]
-pub(crate) struct LimitedNet<'a> {
-    pub(crate) net: &'a Network,
-    pub(crate) limit: Amount,
+pub struct LimitedNet<'a> {
+    pub net: &'a Network,
+    pub limit: Amount,
 }
 
 impl<'a> LimitedNet<'a> {
+    /// How many nodes there are.
+    pub fn nodes(self) -> u8
+        ensures { result ≡ nodes_in self.entry }
+    {
+        self.net.nodes()
+    }
+
     /// The arcs, in the order in which they were given.
-    pub(crate) fn arcs(self) -> &'a [Arc]
+    pub fn arcs(self) -> &'a [Arc]
         ensures { result.now ≡ arcs_in self.entry }
     {
         self.net.arcs()
     }
 
     /// The step that an arc which carries so much allows from a node.
-    pub(crate) fn step_from(self, arc: Arc, carried: u32, node: u8) -> Step
+    pub fn step_from(self, arc: Arc, carried: u32, node: u8) -> Step
         ensures to { result.to ≡ far_end arc node }
         ensures residual { result.residual ≡ residual_of self.entry.limit.value arc carried node }
     {

@@ -7,18 +7,20 @@ use Rattle.flows.specs.Sums.{sum_to, only}
 use Rattle.flows.specs.Flows.{arc_at, inflow, outflow}
 use Rattle.flows.proofs.Sums.{sum_balance, sum_none, sum_le, sum_change, term_le}
 use Rattle.path_engine.specs.Residual.{far_end, residual_of, end_at, Closed}
+use Rattle.path_engine.specs.Searches.{arcs_in, nodes_in}
 use Rattle.push_engine.specs.declared.preflow.Task.{Task}
 use Rattle.push_engine.specs.declared.preflow.Preflow.{Preflow}
 use Rattle.push_engine.specs.Preflows.{limit_of, wanted_of, excess_of, heights_of, supply, Steep, Holds}
-use Rattle.push_engine.proofs.Pushes.{ends_at, end_in}
+use Rattle.path_engine.proofs.Arcs.{end_in}
+use Rattle.push_engine.proofs.Pushes.{ends_at}
 use Rattle.push_engine.proofs.Gaps.{IsGap, gap}
 
 above : (g a b : ℕ) → a ≤ b + 1 → b ≢ g → ltb g a ≡ true → ltb g b ≡ true
 above g a b le ne lt = grind (arith, nat_tests)
 
-pub above_gap : (t : Task) (x d : List ℕ) (b g : ℕ) → Steep t x d → IsGap (λ v. get_or d v 0) t.nodes b g → Closed (limit_of t) t.arcs.now x (λ v. ltb g (get_or d v 0))
+pub above_gap : (t : Task) (x d : List ℕ) (b g : ℕ) → Steep t x d → IsGap (λ v. get_or d v 0) (nodes_in t.net) b g → Closed (limit_of t) (arcs_in t.net) x (λ v. ltb g (get_or d v 0))
 above_gap t x d b g steep i k u k-in high more =
-    above g (get_or d u 0) (get_or d (end_at t.arcs.now k u) 0) (steep k u k-in more) (i.free (end_at t.arcs.now k u) (end_in t k u k-in)) high
+    above g (get_or d u 0) (get_or d (end_at (arcs_in t.net) k u) 0) (steep k u k-in more) (i.free (end_at (arcs_in t.net) k u) (end_in t.net.net.now k k-in u)) high
 
 -- a sum over the nodes of a set of what m arcs carry at the ends e: the sum over the arcs that end there
 module _ (p : ℕ → Bool) (n : ℕ) (e x : ℕ → ℕ) where
@@ -57,12 +59,12 @@ only_balance : (b : Bool) (i s o e : ℕ) → i + s ≡ o + e → only b s ≡ 0
 only_balance b i s o e h z = grind arith
 
 -- a closed set without node 0
-module _ (q : Preflow) (i : Holds q) (p : ℕ → Bool) (source : p 0 ≡ false) (closed : Closed (limit_of q.task) q.task.arcs.now q.flow p) where
+module _ (q : Preflow) (i : Holds q) (p : ℕ → Bool) (source : p 0 ≡ false) (closed : Closed (limit_of q.task) (arcs_in q.task.net) q.flow p) where
   abbrev arcs : List Arc
-  arcs = q.task.arcs.now
+  arcs = arcs_in q.task.net
 
   abbrev n : ℕ
-  n = q.task.nodes
+  n = nodes_in q.task.net
 
   abbrev x : ℕ → ℕ
   x k = get_or q.flow k 0
@@ -88,9 +90,9 @@ module _ (q : Preflow) (i : Holds q) (p : ℕ → Bool) (source : p 0 ≡ false)
       )
 
 -- nothing waits at a node at the ceiling, but at node 0
-pub nothing_high : (q : Preflow) → Holds q → (v : ℕ) → v < q.task.nodes → 2 * q.task.nodes ≤ get_or (heights_of q) v 0 → get_or (excess_of q) v 0 ≡ 0
+pub nothing_high : (q : Preflow) → Holds q → (v : ℕ) → v < nodes_in q.task.net → 2 * nodes_in q.task.net ≤ get_or (heights_of q) v 0 → get_or (excess_of q) v 0 ≡ 0
 nothing_high q i v v-in high =
-    let n = q.task.nodes in
+    let n = nodes_in q.task.net in
     let g = gap (λ u. get_or (heights_of q) u 0) n n v v-in (omega arith) in
     nothing_waits q i (λ u. ltb g.0 (get_or (heights_of q) u 0)) (le-ltb g.0 (get_or (heights_of q) 0 0) (omega (arith, g.1.from, i.labels.low 0)))
     (above_gap q.task q.flow (heights_of q) n g.0 i.labels.steep g.1) v v-in (lt-ltb g.0 (get_or (heights_of q) v 0) (omega (arith, g.1.low)))

@@ -4,6 +4,7 @@ use Rattle.std.proofs.Math.ListN.{get_or-map}
 use Rattle.std.proofs.Math.Seq.{map-set_same}
 use Rattle.std.proofs.lemmas.List.{map-set}
 use Rattle.path_engine.specs.Residual.{end_at}
+use Rattle.path_engine.specs.Searches.{arcs_in}
 use Rattle.push_engine.specs.declared.preflow.Node.{Node}
 use Rattle.push_engine.specs.declared.preflow.Preflow.{Preflow}
 use Rattle.push_engine.specs.Preflows.{excess_of, heights_of, no_node, node_at, taken, given, sent, raised}
@@ -42,15 +43,15 @@ unfolding excess_of
 excess_taken p m a v = sym (get_or-map excess (taken m a p.nodes) v no_node) ∙ ap (λ (e : List ℕ). get_or e v 0) (taken_excess p.nodes m a)
 
 -- the amount m left the node v by the arc k
-pub excess_sent : (p : Preflow) (k v m : ℕ) → excess_of (sent p k v m) ≡ moved m v (end_at p.task.arcs.now k v) (excess_of p)
+pub excess_sent : (p : Preflow) (k v m : ℕ) → excess_of (sent p k v m) ≡ moved m v (end_at (arcs_in p.task.net) k v) (excess_of p)
 unfolding excess_of
 excess_sent p k v m =
-    let to = end_at p.task.arcs.now k v in
+    let to = end_at (arcs_in p.task.net) k v in
     given_excess (taken m v p.nodes) m to ∙ ap (λ (e : List ℕ). set e to (get_or e to 0 + m)) (taken_excess p.nodes m v)
 
 pub heights_sent : (p : Preflow) (k v m : ℕ) → heights_of (sent p k v m) ≡ heights_of p
 unfolding heights_of
-heights_sent p k v m = given_heights (taken m v p.nodes) m (end_at p.task.arcs.now k v) ∙ taken_heights p.nodes m v
+heights_sent p k v m = given_heights (taken m v p.nodes) m (end_at (arcs_in p.task.net) k v) ∙ taken_heights p.nodes m v
 
 -- the node v was raised to the height h
 pub excess_raised : (p : Preflow) (v h : ℕ) → excess_of (raised p v h) ≡ excess_of p

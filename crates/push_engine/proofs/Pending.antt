@@ -7,16 +7,18 @@ use Rattle.flows.specs.Sums.{only}
 use Rattle.flows.specs.Flows.{arc_at}
 use Rattle.push_engine.specs.declared.preflow.Preflow.{Preflow}
 use Rattle.path_engine.specs.Residual.{far_end, end_at}
+use Rattle.path_engine.specs.Searches.{arcs_in, nodes_in}
 use Rattle.push_engine.specs.Preflows.{excess_of, heights_of, Holds, pending, sent, raised}
 use Rattle.push_engine.specs.Lines.{QueuedBut}
+use Rattle.path_engine.proofs.Arcs.{end_few}
 use Rattle.push_engine.proofs.Sums.{moved_at}
 use Rattle.push_engine.proofs.Nodes.{excess_sent, heights_sent, excess_raised, heights_raised}
-use Rattle.push_engine.proofs.Pushes.{Ends, ends_at, end_in}
+use Rattle.push_engine.proofs.Pushes.{Ends, ends_at}
 use Rattle.push_engine.proofs.Queues.{quiet, joined}
 
 -- what a pending node is
 pub record Pends (p : Preflow) (v : ℕ) : Type 0 where
-  pub inside : v < p.task.nodes
+  pub inside : v < nodes_in p.task.net
   pub no_sink : v ≢ 1
   pub some : 0 < get_or (excess_of p) v 0
 
@@ -24,7 +26,7 @@ pub pends : (p : Preflow) (v : ℕ) → pending p v ≡ true → Pends p v
 pends p v h = record { inside = grind (arith, nat_tests); no_sink = λ e. grind (arith, nat_tests); some = grind (arith, nat_tests) }
 
 pub past : (p : Preflow) (u : ℕ) → 64 ≤ u → pending p u ≡ false
-past p u h = let most = p.task.counts.1 in grind (arith, nat_tests)
+past p u h = let most = p.task.net.net.now.counts.1 in grind (arith, nat_tests)
 
 -- without excess nothing is to be done, and with more excess no less
 pub empty : (p : Preflow) (v : ℕ) → get_or (excess_of p) v 0 ≡ 0 → pending p v ≡ false
@@ -40,19 +42,19 @@ pub raised_but : (p : Preflow) (v h : ℕ) (w : List ℕ) → QueuedBut p v w �
 raised_but p v h w b = quiet (pending p) v w b (pending (raised p v h)) (raised_other p v h)
 
 -- the amount m leaves v by the arc k
-module _ (p q : Preflow) (v k m to : ℕ) (i : Holds p) (v-in : v < p.task.nodes) (k-in : k < length p.task.arcs.now) (le : m ≤ get_or (excess_of p) v 0)
-    (is : to ≡ end_at p.task.arcs.now k v) (e : q ≡ sent p k v m) where
+module _ (p q : Preflow) (v k m to : ℕ) (i : Holds p) (v-in : v < nodes_in p.task.net) (k-in : k < length (arcs_in p.task.net)) (le : m ≤ get_or (excess_of p) v 0)
+    (is : to ≡ end_at (arcs_in p.task.net) k v) (e : q ≡ sent p k v m) where
   abbrev arcs : List Arc
-  arcs = p.task.arcs.now
+  arcs = arcs_in p.task.net
 
   pub to_in : to < 64
-  to_in = rw is (omega (arith, end_in p.task k v k-in, p.task.counts.1))
+  to_in = rw is (end_few p.task.net.net.now k k-in v)
 
   apart : to ≢ v
-  apart = rw is (far_apart p.task.nodes (arc_at arcs k) v (ends_at p.task k k-in))
+  apart = rw is (far_apart (nodes_in p.task.net) (arc_at arcs k) v (ends_at p.task k k-in))
 
   excess_at : (u : ℕ) → get_or (excess_of q) u 0 + only (eqb v u) m ≡ get_or (excess_of p) u 0 + only (eqb to u) m
-  excess_at u = rw (e, is, excess_sent p k v m) (moved_at (excess_of p) m v (end_at arcs k v) le (omega (arith, p.task.counts.1, i.load.nodes_held)) (omega (arith, end_in p.task k v k-in, p.task.counts.1, i.load.nodes_held)) u)
+  excess_at u = rw (e, is, excess_sent p k v m) (moved_at (excess_of p) m v (end_at arcs k v) le (omega (arith, p.task.net.net.now.counts.1, i.load.nodes_held)) (omega (arith, end_few p.task.net.net.now k k-in v, i.load.nodes_held)) u)
 
   -- the amount is gone from v
   pub left_at : get_or (excess_of q) v 0 + m ≡ get_or (excess_of p) v 0

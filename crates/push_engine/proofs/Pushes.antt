@@ -9,10 +9,12 @@ use Rattle.network.specs.Rules.{arc_ok}
 use Rattle.flows.proofs.Places.{sum_set, each_set}
 use Rattle.push_engine.specs.declared.preflow.Task.{Task}
 use Rattle.push_engine.specs.declared.preflow.Preflow.{Preflow}
-use Rattle.path_engine.specs.Residual.{far_end, residual_of, end_at, residual}
+use Rattle.path_engine.specs.Residual.{far_end, residual_of, end_at}
+use Rattle.path_engine.specs.Searches.{arcs_in, nodes_in, residual_in}
 use Rattle.push_engine.specs.Preflows.{limit_of, wanted_of, excess_of, heights_of, ceiling, carried_after, Load, Steep, Holds, effort, sent, raised}
 use Rattle.push_engine.specs.Moves.{CanPush, CanRelabel, Stepped}
 use Rattle.flows.proofs.Sums.{sum_change, term_le}
+use Rattle.path_engine.proofs.Arcs.{end_in}
 use Rattle.push_engine.proofs.Nodes.{excess_sent, heights_sent, excess_raised, heights_raised}
 use Rattle.push_engine.proofs.Sums.{moved, weigh_set, moved_long, weigh_moved, moved_at}
 
@@ -26,14 +28,8 @@ pub record Ends (n : ℕ) (a : Arc) : Type 0 where
 ends : (n : ℕ) (a : Arc) → arc_ok n a ≡ true → Ends n a
 ends n a h = record { tail_in = grind (arith, nat_tests); head_in = grind (arith, nat_tests); apart = λ e. grind (arith, nat_tests); no_entry = λ e. grind (arith, nat_tests) }
 
-far_in : (n : ℕ) (a : Arc) (v : ℕ) → Ends n a → far_end a v < n
-far_in n a v e = let t = e.tail_in in let h = e.head_in in grind arith
-
-pub ends_at : (t : Task) (k : ℕ) → k < length t.arcs.now → Ends t.nodes (arc_at t.arcs.now k)
-ends_at t k h = ends t.nodes (arc_at t.arcs.now k) (t.rules k h)
-
-pub end_in : (t : Task) (k v : ℕ) → k < length t.arcs.now → end_at t.arcs.now k v < t.nodes
-end_in t k v h = far_in t.nodes (arc_at t.arcs.now k) v (ends_at t k h)
+pub ends_at : (t : Task) (k : ℕ) → k < length (arcs_in t.net) → Ends (nodes_in t.net) (arc_at (arcs_in t.net) k)
+ends_at t k h = ends (nodes_in t.net) (arc_at (arcs_in t.net) k) (t.net.net.now.rules k h)
 
 -- the amount m leaves the node v by an arc
 module _ (L : ℕ) (a : Arc) (f v m : ℕ) (fits : m ≤ residual_of L a f v) where
@@ -68,22 +64,22 @@ module _ (L : ℕ) (a : Arc) (f v m : ℕ) (fits : m ≤ residual_of L a f v) wh
       ]
 
 -- what waits at a node is at most what is wanted
-waits_le : (t : Task) (x e : List ℕ) → Load t x e → (v : ℕ) → v < t.nodes → get_or e v 0 ≤ wanted_of t
-waits_le t x e o v h = omega (arith, term_le (λ v. get_or e v 0 * 1) v t.nodes h, o.whole)
+waits_le : (t : Task) (x e : List ℕ) → Load t x e → (v : ℕ) → v < nodes_in t.net → get_or e v 0 ≤ wanted_of t
+waits_le t x e o v h = omega (arith, term_le (λ v. get_or e v 0 * 1) v (nodes_in t.net) h, o.whole)
 
 -- so is what a node gets
-pub gets_le : (t : Task) (x e : List ℕ) → Load t x e → (a b m : ℕ) → a < t.nodes → b < t.nodes → m ≤ get_or e a 0 → get_or (set e a (get_or e a 0 - m)) b 0 + m ≤ wanted_of t
+pub gets_le : (t : Task) (x e : List ℕ) → Load t x e → (a b m : ℕ) → a < nodes_in t.net → b < nodes_in t.net → m ≤ get_or e a 0 → get_or (set e a (get_or e a 0 - m)) b 0 + m ≤ wanted_of t
 gets_le t x e o a b m a_in b-in le =
-    let l : a < length e = omega (arith, t.counts.1, o.nodes_held) in
-    omega (arith, weigh_set (λ _. 1) e t.nodes a (get_or e a 0 - m) a_in l, term_le (λ v. get_or (set e a (get_or e a 0 - m)) v 0 * 1) b t.nodes b-in, o.whole)
+    let l : a < length e = omega (arith, t.net.net.now.counts.1, o.nodes_held) in
+    omega (arith, weigh_set (λ _. 1) e (nodes_in t.net) a (get_or e a 0 - m) a_in l, term_le (λ v. get_or (set e a (get_or e a 0 - m)) v 0 * 1) b (nodes_in t.net) b-in, o.whole)
 
-module _ (p : Preflow) (v k m : ℕ) (i : Holds p) (v-in : v < p.task.nodes) (w : CanPush p v k)
-    (some : 0 < m) (fits : m ≤ residual (limit_of p.task) p.task.arcs.now p.flow k v) (le : m ≤ get_or (excess_of p) v 0) where
+module _ (p : Preflow) (v k m : ℕ) (i : Holds p) (v-in : v < nodes_in p.task.net) (w : CanPush p v k)
+    (some : 0 < m) (fits : m ≤ residual_in p.task.net p.flow k v) (le : m ≤ get_or (excess_of p) v 0) where
   abbrev t : Task
   t = p.task
 
   abbrev arcs : List Arc
-  arcs = t.arcs.now
+  arcs = arcs_in t.net
 
   abbrev L : ℕ
   L = limit_of t
@@ -103,17 +99,17 @@ module _ (p : Preflow) (v k m : ℕ) (i : Holds p) (v-in : v < p.task.nodes) (w 
   abbrev y : ℕ
   y = carried_after (arc_at arcs k) (get_or x k 0) v m
 
-  to_in : to < t.nodes
-  to_in = end_in t k v w.inside
+  to_in : to < nodes_in t.net
+  to_in = end_in t.net.net.now k w.inside v
 
   in_flow : k < length x
-  in_flow = omega (arith, w.inside, t.counts.2, i.load.arcs_held)
+  in_flow = omega (arith, w.inside, t.net.net.now.counts.2, i.load.arcs_held)
 
   from_in : v < length e
-  from_in = omega (arith, v-in, t.counts.1, i.load.nodes_held)
+  from_in = omega (arith, v-in, t.net.net.now.counts.1, i.load.nodes_held)
 
   far_held : to < length e
-  far_held = omega (arith, to_in, t.counts.1, i.load.nodes_held)
+  far_held = omega (arith, to_in, t.net.net.now.counts.1, i.load.nodes_held)
 
   load_pushed : Load t (set x k y) (moved m v to e)
   load_pushed =
@@ -130,7 +126,7 @@ module _ (p : Preflow) (v k m : ℕ) (i : Holds p) (v-in : v < p.task.nodes) (w 
           i.load.balanced u,
           moved_at e m v to le from_in far_held u,
         );
-        whole = omega (arith, weigh_moved e m v to le from_in far_held (λ _. 1) t.nodes v-in to_in, i.load.whole);
+        whole = omega (arith, weigh_moved e m v to le from_in far_held (λ _. 1) (nodes_in t.net) v-in to_in, i.load.whole);
       }
 
   steep_pushed : Steep t (set x k y) d
@@ -147,7 +143,7 @@ module _ (p : Preflow) (v k m : ℕ) (i : Holds p) (v-in : v < p.task.nodes) (w 
       ]
 
   less_effort : effort (sent p k v m) < effort p
-  less_effort = rw (excess_sent p k v m, heights_sent p k v m) (omega (arith, weigh_moved e m v to le from_in far_held (λ u. get_or d u 0) t.nodes v-in to_in, mul-le-mul_left m w.down))
+  less_effort = rw (excess_sent p k v m, heights_sent p k v m) (omega (arith, weigh_moved e m v to le from_in far_held (λ u. get_or d u 0) (nodes_in t.net) v-in to_in, mul-le-mul_left m w.down))
 
   pub push_steps : Stepped p (sent p k v m)
   push_steps =
@@ -170,14 +166,14 @@ module _ (d : List ℕ) (v h : ℕ) (l : v < length d) (lt : get_or d v 0 < h) w
 pub ceiling_le : (n v : ℕ) → ceiling n v ≤ 2 * n
 ceiling_le n v = grind (arith, nat_tests)
 
-pub raise_steps : (p : Preflow) (v h : ℕ) → Holds p → v < p.task.nodes → v ≢ 1 → CanRelabel p v h (length p.task.arcs.now) → Stepped p (raised p v h)
+pub raise_steps : (p : Preflow) (v h : ℕ) → Holds p → v < nodes_in p.task.net → v ≢ 1 → CanRelabel p v h (length (arcs_in p.task.net)) → Stepped p (raised p v h)
 raise_steps p v h i v-in no_sink w =
     let t = p.task in
     let e = excess_of p in
     let d = heights_of p in
-    let n = t.nodes in
+    let n = nodes_in t.net in
     let top : ℕ = 2 * n in
-    let l : v < length d = omega (arith, t.counts.1, i.labels.held) in
+    let l : v < length d = omega (arith, t.net.net.now.counts.1, i.labels.held) in
     let ne : 1 ≢ v = λ q. no_sink (sym q) in
     let step : ℕ = h - get_or d v 0 in
     let up : get_or d v 0 + step ≡ h = omega (arith, w.higher) in
@@ -190,7 +186,7 @@ raise_steps p v h i v-in no_sink w =
           held = length-set d v h ∙ i.labels.held;
           low = λ u. elim (cases_eq u v) [ inl q ↦ rw (q, get_or-set_same) w.low | inr ne ↦ rw get_or-set_other (i.labels.low u) ];
           sink = rw get_or-set_other i.labels.sink;
-          steep = λ k u m more. set_steep d v h l w.higher u (end_at t.arcs.now k u) (i.labels.steep k u m more) (λ q. let here : 0 < residual (limit_of t) t.arcs.now p.flow k v = rw q at more in rw q (w.steep k m here));
+          steep = λ k u m more. set_steep d v h l w.higher u (end_at (arcs_in t.net) k u) (i.labels.steep k u m more) (λ q. let here : 0 < residual_in t.net p.flow k v = rw q at more in rw q (w.steep k m here));
         });
       };
       less = rw (excess_raised p v h, heights_raised p v h) (omega (

@@ -4,6 +4,7 @@ use Rattle.flows.specs.Sums.{only}
 use Rattle.push_engine.specs.declared.preflow.Preflow.{Preflow}
 use Rattle.push_engine.specs.Preflows.{heights_of, Holds, effort, pending}
 use Rattle.push_engine.specs.Moves.{CanRelabel, Stepped}
+use Rattle.path_engine.specs.Searches.{arcs_in}
 
 -- how often u stands in a list
 abbrev pub tally : ℕ → List ℕ → ℕ
@@ -35,4 +36,4 @@ pub record Working (p : Preflow) (v : ℕ) (q : Preflow) (w : List ℕ) : Type 0
 -- nothing waits at v any more, or v can be raised to the height h
 abbrev pub Drained : Preflow → ℕ → Preflow → List ℕ → Option ℕ → Type 0
 Drained p v q w None = Stepped p q × Queued q w
-Drained p v q w (Some h) = Working p v q w × CanRelabel q v h (length q.task.arcs.now)
+Drained p v q w (Some h) = Working p v q w × CanRelabel q v h (length (arcs_in q.task.net))

@@ -8,11 +8,12 @@ use Rattle.network.specs.Runs.{ZeroAfter}
 use Rattle.push_engine.specs.declared.preflow.Task.{Task}
 use Rattle.push_engine.specs.declared.preflow.Node.{Node}
 use Rattle.push_engine.specs.declared.preflow.Preflow.{Preflow}
-use Rattle.path_engine.specs.Residual.{end_at, residual}
+use Rattle.path_engine.specs.Residual.{end_at}
+use Rattle.path_engine.specs.Searches.{arcs_in, nodes_in, residual_in}
 
 -- the limit and the wanted size of a task
 abbrev pub limit_of : Task → ℕ
-limit_of t = t.limit.value
+limit_of t = t.net.limit.value
 
 abbrev pub wanted_of : Task → ℕ
 wanted_of t = t.wanted.value
@@ -40,19 +41,19 @@ supply W v = only (v == 0) W
 pub record Load (t : Task) (x e : List ℕ) : Type 0 where
   pub arcs_held : length x ≡ 256
   pub nodes_held : length e ≡ 64
-  pub fits : EachArc (λ a f. f ≤ capacity_under (limit_of t) a) t.arcs.now x
-  pub rest : ZeroAfter t.arcs.now x
-  pub balanced : (v : ℕ) → inflow v t.arcs.now x + supply (wanted_of t) v ≡ outflow v t.arcs.now x + slice_index e v
-  pub whole : weigh (λ _. 1) e t.nodes ≡ wanted_of t
+  pub fits : EachArc (λ a f. f ≤ capacity_under (limit_of t) a) (arcs_in t.net) x
+  pub rest : ZeroAfter (arcs_in t.net) x
+  pub balanced : (v : ℕ) → inflow v (arcs_in t.net) x + supply (wanted_of t) v ≡ outflow v (arcs_in t.net) x + slice_index e v
+  pub whole : weigh (λ _. 1) e (nodes_in t.net) ≡ wanted_of t
 
 -- no residual arc leads down by more than one
 abbrev pub Steep : Task → List ℕ → List ℕ → Type 0
-Steep t x d = (k u : ℕ) → k < length t.arcs.now → 0 < residual (limit_of t) t.arcs.now x k u → slice_index d u ≤ slice_index d (end_at t.arcs.now k u) + 1
+Steep t x d = (k u : ℕ) → k < length (arcs_in t.net) → 0 < residual_in t.net x k u → slice_index d u ≤ slice_index d (end_at (arcs_in t.net) k u) + 1
 
 -- the heights: no node stands above its ceiling, and node 1 stands at 0
 pub record Labels (t : Task) (x d : List ℕ) : Type 0 where
   pub held : length d ≡ 64
-  pub low : (v : ℕ) → slice_index d v ≤ ceiling t.nodes v
+  pub low : (v : ℕ) → slice_index d v ≤ ceiling (nodes_in t.net) v
   pub sink : slice_index d 1 ≡ 0
   pub steep : Steep t x d
 
@@ -65,12 +66,12 @@ pub record Holds (p : Preflow) : Type 0 where
 -- still rise, weighed by more than all the excess
 abbrev pub effort : Preflow → ℕ
 effort p =
-    weigh (λ v. slice_index (heights_of p) v) (excess_of p) p.task.nodes + sum_to p.task.nodes (λ v. (wanted_of p.task + 1) * (2 * p.task.nodes - slice_index (heights_of p) v))
+    weigh (λ v. slice_index (heights_of p) v) (excess_of p) (nodes_in p.task.net) + sum_to (nodes_in p.task.net) (λ v. (wanted_of p.task + 1) * (2 * nodes_in p.task.net - slice_index (heights_of p) v))
 
 -- whether something is to be done at a node: it is not node 1, something waits there, and it stands
 -- below its ceiling
 abbrev pub pending : Preflow → ℕ → Bool
-pending p v = nat_lt v p.task.nodes && (not (v == 1) && (nat_lt 0 (slice_index (excess_of p) v) && nat_lt (slice_index (heights_of p) v) (ceiling p.task.nodes v)))
+pending p v = nat_lt v (nodes_in p.task.net) && (not (v == 1) && (nat_lt 0 (slice_index (excess_of p) v) && nat_lt (slice_index (heights_of p) v) (ceiling (nodes_in p.task.net) v)))
 
 -- what an arc that carries f carries after the amount m left the node v by it
 abbrev pub carried_after : Arc → ℕ → ℕ → ℕ → ℕ
@@ -78,7 +79,7 @@ carried_after a f v m = cond (a.tail == v) (f + m) (f - m)
 
 -- the most that can be pushed from the node v by the arc k: all that the arc takes, or all that waits
 abbrev pub pushable : Preflow → ℕ → ℕ → ℕ
-pushable p k v = min (residual (limit_of p.task) p.task.arcs.now p.flow k v) (slice_index (excess_of p) v)
+pushable p k v = min (residual_in p.task.net p.flow k v) (slice_index (excess_of p) v)
 
 -- a node at height 0 where nothing waits
 abbrev pub no_node : Node
@@ -98,8 +99,8 @@ given m b l = slice_set l b (record { excess = (node_at l b).excess + m; height 
 abbrev pub sent : Preflow → ℕ → ℕ → ℕ → Preflow
 sent p k v m = record {
   task = p.task;
-  flow = slice_set p.flow k (carried_after (arc_at p.task.arcs.now k) (slice_index p.flow k) v m);
-  nodes = given m (end_at p.task.arcs.now k v) (taken m v p.nodes);
+  flow = slice_set p.flow k (carried_after (arc_at (arcs_in p.task.net) k) (slice_index p.flow k) v m);
+  nodes = given m (end_at (arcs_in p.task.net) k v) (taken m v p.nodes);
 }
 
 -- the preflow after the node v was raised to the height h

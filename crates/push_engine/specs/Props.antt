@@ -8,18 +8,19 @@ use Rattle.network.specs.Runs.{ZeroAfter}
 use Rattle.push_engine.specs.declared.preflow.Task.{Task}
 use Rattle.push_engine.specs.declared.preflow.Preflow.{Preflow}
 use Rattle.push_engine.specs.Preflows.{limit_of, wanted_of, excess_of, heights_of, supply, weigh, ceiling, Load, Steep, Labels, Holds}
+use Rattle.path_engine.specs.Searches.{arcs_in, nodes_in}
 
 Load-prop : (t : Task) (x e : List ℕ) → IsProp (Load t x e)
 Load-prop t x e a b =
-    let Parts : Type 0 = (length x ≡ 256) × (length e ≡ 64) × EachArc (λ a f. f ≤ capacity_under (limit_of t) a) t.arcs.now x × ZeroAfter t.arcs.now x
-    × ((v : ℕ) → inflow v t.arcs.now x + supply (wanted_of t) v ≡ outflow v t.arcs.now x + slice_index e v) × (weigh (λ _. 1) e t.nodes ≡ wanted_of t) in
+    let Parts : Type 0 = (length x ≡ 256) × (length e ≡ 64) × EachArc (λ a f. f ≤ capacity_under (limit_of t) a) (arcs_in t.net) x × ZeroAfter (arcs_in t.net) x
+    × ((v : ℕ) → inflow v (arcs_in t.net) x + supply (wanted_of t) v ≡ outflow v (arcs_in t.net) x + slice_index e v) × (weigh (λ _. 1) e (nodes_in t.net) ≡ wanted_of t) in
     let one : IsProp Parts = Prim.hlevel props in
     let whole : Parts → Load t x e = λ p. record { arcs_held = p.0; nodes_held = p.1; fits = p.2; rest = p.3; balanced = p.4; whole = p.5 } in
     ap whole (one (a.arcs_held, a.nodes_held, a.fits, a.rest, a.balanced, a.whole) (b.arcs_held, b.nodes_held, b.fits, b.rest, b.balanced, b.whole))
 
 Labels-prop : (t : Task) (x d : List ℕ) → IsProp (Labels t x d)
 Labels-prop t x d a b =
-    let Parts : Type 0 = (length d ≡ 64) × ((v : ℕ) → slice_index d v ≤ ceiling t.nodes v) × (slice_index d 1 ≡ 0) × Steep t x d in
+    let Parts : Type 0 = (length d ≡ 64) × ((v : ℕ) → slice_index d v ≤ ceiling (nodes_in t.net) v) × (slice_index d 1 ≡ 0) × Steep t x d in
     let one : IsProp Parts = Prim.hlevel props in
     let whole : Parts → Labels t x d = λ p. record { held = p.0; low = p.1; sink = p.2; steep = p.3 } in
     ap whole (one (a.held, a.low, a.sink, a.steep) (b.held, b.low, b.sink, b.steep))

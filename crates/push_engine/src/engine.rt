@@ -8,7 +8,7 @@ ghost use Rattle.path_engine.specs.Residual.{Innermost};
 
 use crate::preflow::{Preflow, Task};
 use network::{Amount, Answer, CountingEngine, Method, Network};
-use path_engine::reach;
+use path_engine::{LimitedNet, reach};
 
 /// Finds flows by preflows and node heights.
 #[derive(Clone, Copy)]
@@ -22,9 +22,7 @@ impl Method for PreflowPush {
         ensures rest { ZeroAfter (arcs_of net.now) flow.new }
     {
         let task = Task {
-            nodes: net.nodes(),
-            arcs: net.arcs(),
-            limit,
+            net: LimitedNet { net, limit },
             wanted,
         };
         let preflow = Preflow::new(task).settle();

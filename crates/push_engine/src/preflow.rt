@@ -1,21 +1,14 @@
 // Preflows: what arcs carry, what waits at nodes, and how high nodes stand.
 ghost use Rattle.std.specs.Prelude.{◌≡◌, ◌<◌, ◌≤◌, length, slice_index};
-ghost use Rattle.network.specs.Rules.{CountsOk, ArcsOk};
 
-use flows::Arc;
 use network::Amount;
-use path_engine::far_end;
+use path_engine::{LimitedNet, far_end};
 
-/// What a run is asked: so much from node 0 to node 1, of so many nodes and these arcs of a network,
-/// under a limit.
+/// What a run is asked: so much from node 0 to node 1 of a network under a limit.
 #[derive(Clone, Copy)]
 pub(crate) struct Task<'a> {
-    pub(crate) nodes: u8,
-    pub(crate) arcs: &'a [Arc],
-    pub(crate) limit: Amount,
+    pub(crate) net: LimitedNet<'a>,
     pub(crate) wanted: Amount,
-    ghost counts: { CountsOk nodes (length arcs.now) },
-    ghost rules: { ArcsOk nodes (length arcs.now) arcs.now },
 }
 
 /// What waits at a node, and how high it stands.
@@ -34,8 +27,8 @@ pub(crate) struct Preflow<'a> {
 }
 
 impl<'a> Preflow<'a> {
-    ghost use Rattle.path_engine.specs.Residual.{residual};
-    ghost use Rattle.push_engine.specs.Preflows.{limit_of, excess_of, heights_of, ceiling, Holds, fresh, pending, sent};
+    ghost use Rattle.path_engine.specs.Searches.{arcs_in, nodes_in, residual_in};
+    ghost use Rattle.push_engine.specs.Preflows.{excess_of, heights_of, ceiling, Holds, fresh, pending, sent};
 
     /// Nothing flows, and all that is wanted waits at node 0.
     pub(crate) fn new(task: Task<'a>) -> Preflow<'a>
@@ -52,13 +45,6 @@ impl<'a> Preflow<'a> {
             flow: [0; 256],
             nodes,
         }
-    }
-
-    /// The arcs of the network.
-    pub(crate) fn arcs(&self) -> &'a [Arc]
-        ensures { result.now ≡ self.now.task.arcs.now }
-    {
-        self.task.arcs
     }
 
     /// What waits at a node.
@@ -80,12 +66,12 @@ impl<'a> Preflow<'a> {
     /// How high a node may stand. Node 0 at its ceiling keeps what waits there, and other nodes never
     /// come so high with anything that waits.
     pub(crate) fn ceiling(&self, node: u8) -> u8
-        ensures { result ≡ ceiling self.now.task.nodes node }
+        ensures { result ≡ ceiling (nodes_in self.now.task.net) node }
     {
         if node == 0 {
-            self.task.nodes
+            self.task.net.nodes()
         } else {
-            2 * self.task.nodes
+            2 * self.task.net.nodes()
         }
     }
 
@@ -93,7 +79,7 @@ impl<'a> Preflow<'a> {
     pub(crate) fn is_pending(&self, node: u8) -> bool
         ensures { result ≡ pending self.now node }
     {
-        node < self.task.nodes
+        node < self.task.net.nodes()
             && node != 1
             && self.excess(node) > 0
             && self.height(node) < self.ceiling(node)
@@ -102,14 +88,13 @@ impl<'a> Preflow<'a> {
     /// Sends an amount from a node to the other end of an arc.
     pub(crate) fn send(&mut self, k: usize, node: u8, amount: u32)
         requires holds { Holds self.old }
-        requires inside { k < length self.old.task.arcs.now }
-        requires node { node < self.old.task.nodes }
-        requires fits { amount
-            ≤ residual (limit_of self.old.task) self.old.task.arcs.now self.old.flow k node }
+        requires inside { k < length (arcs_in self.old.task.net) }
+        requires node { node < nodes_in self.old.task.net }
+        requires fits { amount ≤ residual_in self.old.task.net self.old.flow k node }
         requires waits { amount ≤ slice_index (excess_of self.old) node }
         ensures { self.new ≡ sent self.old k node amount }
     {
-        let arc = self.task.arcs[k];
+        let arc = self.task.net.arcs()[k];
         let carried = if arc.tail == node {
             self.flow[k] + amount
         } else {

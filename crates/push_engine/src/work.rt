@@ -1,5 +1,6 @@
 // What is done at one node after another, until nothing is left to be done.
 ghost use Rattle.std.specs.Prelude.{◌≡◌, ℕ, true, length};
+ghost use Rattle.path_engine.specs.Searches.{arcs_in};
 ghost use Rattle.push_engine.specs.Preflows.{Holds, pending, pushable, sent, raised};
 ghost use Rattle.push_engine.specs.Props.{Holds-prop};
 ghost use Rattle.push_engine.specs.Moves.{CanPush, CanRelabel, Stepped, Settled};
@@ -7,7 +8,6 @@ ghost use Rattle.push_engine.specs.Lines.{Queued, QueuedBut, Taken, Drained};
 
 use crate::preflow::Preflow;
 use line::NodeLine;
-use path_engine::{far_end, residual_from};
 
 /// A preflow between two moves.
 #[derive(Drop)]
@@ -27,13 +27,12 @@ impl Work<'_> {
         ensures queued { QueuedBut self.new.preflow node queue.new }
     {
         let preflow = &mut self.preflow;
-        let arc = preflow.arcs()[k];
-        let to = far_end(arc, node);
-        let waited = preflow.is_pending(to);
-        let most = residual_from(arc, preflow.flow[k], preflow.task.limit, node);
-        preflow.send(k, node, most.min(preflow.excess(node)));
-        if !waited && preflow.is_pending(to) {
-            queue.push(to).unwrap();
+        let arc = preflow.task.net.arcs()[k];
+        let step = preflow.task.net.step_from(arc, preflow.flow[k], node);
+        let waited = preflow.is_pending(step.to);
+        preflow.send(k, node, step.residual.min(preflow.excess(node)));
+        if !waited && preflow.is_pending(step.to) {
+            queue.push(step.to).unwrap();
         }
     }
 
@@ -42,7 +41,7 @@ impl Work<'_> {
     fn relabel(&mut self, queue: &mut NodeLine<'_, u8>, node: u8, height: u8)
         requires taken { Taken self.old.preflow node queue.old }
         requires can { CanRelabel self.old.preflow node height
-            (length self.old.preflow.task.arcs.now) }
+            (length (arcs_in self.old.preflow.task.net)) }
         ensures raised { self.new.preflow ≡ raised self.old.preflow node height }
         ensures queued { Queued self.new.preflow queue.new }
     {
@@ -60,11 +59,12 @@ impl Work<'_> {
     {
         let height = self.preflow.height(node);
         let mut next = self.preflow.ceiling(node);
-        let arcs = self.preflow.arcs();
+        let arcs = self.preflow.task.net.arcs();
         for (k, arc) in arcs.iter().enumerate() {
             let preflow = &self.preflow;
-            if residual_from(*arc, preflow.flow[k], preflow.task.limit, node) > 0 {
-                let end = preflow.height(far_end(*arc, node));
+            let step = preflow.task.net.step_from(*arc, preflow.flow[k], node);
+            if step.residual > 0 {
+                let end = preflow.height(step.to);
                 if end >= height {
                     next = next.min(end + 1);
                 } else {

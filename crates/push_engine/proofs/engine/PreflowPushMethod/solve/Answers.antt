@@ -9,20 +9,18 @@ settle-preflow-requires c =
 
 pub returns-then-excess-eq0 : goal.returns-then-excess-eq0
 returns-then-excess-eq0 c =
-    let net = c.args.net.now in
     let p = c.settle-preflow.result in
     record {
-      shown = reaches net _ _ p c.nodes.ensures c.arcs.ensures c.new.ensures c.settle-preflow.ensures (omega arith);
+      shown = reaches _ _ p c.new.ensures c.settle-preflow.ensures (omega arith);
       least = tt;
-      rest = rest net _ _ p c.nodes.ensures c.arcs.ensures c.new.ensures c.settle-preflow.ensures;
+      rest = rest _ _ p c.new.ensures c.settle-preflow.ensures;
     }
 
 pub returns : goal.returns
 returns c =
-    let net = c.args.net.now in
     let p = c.settle-preflow.result in
     record {
-      shown = short net _ _ p c.nodes.ensures c.arcs.ensures c.new.ensures c.settle-preflow.ensures c.reach.result.bits (omega arith) c.reach.ensures;
+      shown = short _ _ p c.new.ensures c.settle-preflow.ensures c.reach.result.bits (omega arith) c.reach.ensures;
       least = c.reach.ensures;
-      rest = rest net _ _ p c.nodes.ensures c.arcs.ensures c.new.ensures c.settle-preflow.ensures;
+      rest = rest _ _ p c.new.ensures c.settle-preflow.ensures;
     }

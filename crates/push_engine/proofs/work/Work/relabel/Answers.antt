@@ -14,7 +14,7 @@ invariant_of-self c =
 pub unwrap-requires : goal.unwrap-requires
 unwrap-requires c =
     let p = c.args.self.now.preflow in
-    c.push.ensures.room.1 (free_self (pending p) c.args.node c.args.queue.now c.requires.taken.queued 64 (past p) (omega (arith, (pends p c.args.node c.requires.taken.waits).inside, p.task.counts.1)))
+    c.push.ensures.room.1 (free_self (pending p) c.args.node c.args.queue.now c.requires.taken.queued 64 (past p) (omega (arith, (pends p c.args.node c.requires.taken.waits).inside, p.task.net.net.now.counts.1)))
 
 pub returns-then-is_pending-clause-queued : goal.returns-then-is_pending-clause-queued
 returns-then-is_pending-clause-queued c =
