@@ -21,8 +21,8 @@ impl fmt::Display for Full {
 
 impl Error for Full {}
 
-/// A waiting line of `count` elements. The oldest stands in `places[head]`, each next one in the next place, and after the
-/// last place comes the first.
+/// A waiting line of `count` elements. The oldest stands in `places[head]`, each next one in the
+/// next place, and after the last place comes the first.
 #[derive(Drop)]
 pub struct Line<'a, T> {
     places: &'a mut [T],

@@ -1,10 +1,10 @@
 // The record of a component type, in a job file and in a job, and how many types and nozzles there can be.
 #![tactic(auto)]
 
-/// A file or a job has 1 to so many types.
+/// The most types that a file or a job can have; it has one at least.
 pub const MOST_TYPES: u8 = 24;
 
-/// A file or a job has 1 to so many nozzles.
+/// The most nozzles that a file or a job can have; it has one at least.
 pub const MOST_NOZZLES: u8 = 8;
 
 /// What is entered of a component type: `None` is not entered, or no limit, and never 0. Bit j - 1
