@@ -9,6 +9,7 @@ mod faults;
 mod outcomes;
 
 pub use faults::JobFault;
+pub use refusals::Refusal;
 
 /// How the last planning ended, if nothing was changed since.
 #[derive(Clone, Copy, PartialEq, Eq, Debug)]

@@ -6,7 +6,7 @@ use Rattle.jobformat.specs.Reading.{got, bad, has, is_map, graphics, number_if, 
 use Rattle.jobformat.specs.Format.{Entry, Contents, bit, number_bytes, mask_bytes, name_bytes, map_of, encode, graphic, all_graphic, name_fits, mask_fits, fits, AllFine, WellFormed, file_bytes}
 
 -- the fields one after another, from b₀ on
-whole : (r m : ℕ) (b₀ b₁ b₂ b₃ b₄ : List ℕ) (q k l : Option ℕ) (n : Option (List ℕ)) → got q b₁ ≡ number_if (has m 1) b₀ → got k b₂ ≡ mask_if (has m 2) r b₁ → got l b₃ ≡ number_if (has m 4) b₂ → got n b₄ ≡ name_if (has m 8) b₃ → got (record { quantity = q; mask = k; limit = l; name = n }) b₄ ≡ fields r m b₀
+pub whole : (r m : ℕ) (b₀ b₁ b₂ b₃ b₄ : List ℕ) (q k l : Option ℕ) (n : Option (List ℕ)) → got q b₁ ≡ number_if (has m 1) b₀ → got k b₂ ≡ mask_if (has m 2) r b₁ → got l b₃ ≡ number_if (has m 4) b₂ → got n b₄ ≡ name_if (has m 8) b₃ → got (record { quantity = q; mask = k; limit = l; name = n }) b₄ ≡ fields r m b₀
 whole r m b₀ b₁ b₂ b₃ b₄ q k l n e₀ e₁ e₂ e₃ = rw (← e₀, ← e₁, ← e₂, ← e₃)
 
 -- the map byte of four bits

@@ -6,7 +6,7 @@ ghost use Rattle.std.specs.Prelude.{Some};
 ghost use Rattle.jobformat.specs.Faults.{number_of, layer_of, place_of, fault_text};
 
 pub use records::{MOST_NOZZLES, MOST_TYPES};
-use refusals::Refusal;
+pub use refusals::Refusal;
 use std::error::Error;
 use std::fmt;
 

@@ -28,25 +28,26 @@ impl Listing<'_> {
         u64::from(self.most_on(arc)) + 1
     }
 
-    /// What the arcs that pass a test carry in all.
-    fn carried<F: Fn(&Arc) -> bool>(&self, flow: &[u32], test: F) -> i64
-        requires { F.IsAlwaysCallable test }
-    {
-        self.arcs
-            .iter()
-            .zip(flow)
-            .filter(|(arc, _)| test(arc))
-            .fold(0, |sum: i64, (_, x)| sum.saturating_add(i64::from(*x)))
+    /// What enters a node less what leaves it.
+    fn balance(&self, flow: &[u32], node: u8) -> i64 {
+        self.arcs.iter().zip(flow).fold(0, |sum: i64, (arc, x)| {
+            if arc.head == node {
+                sum.saturating_add(i64::from(*x))
+            } else if arc.tail == node {
+                sum.saturating_sub(i64::from(*x))
+            } else {
+                sum
+            }
+        })
     }
 
     /// What leaves a node.
     fn leaves(&self, flow: &[u32], node: u8) -> i64 {
-        self.carried(flow, |arc| arc.tail == node)
-    }
-
-    /// What enters a node.
-    fn enters(&self, flow: &[u32], node: u8) -> i64 {
-        self.carried(flow, |arc| arc.head == node)
+        self.arcs
+            .iter()
+            .zip(flow)
+            .filter(|(arc, _)| arc.tail == node)
+            .fold(0, |sum: i64, (_, x)| sum.saturating_add(i64::from(*x)))
     }
 
     /// The size of a flow, if the list is one.
@@ -56,8 +57,7 @@ impl Listing<'_> {
             .iter()
             .zip(flow)
             .all(|(arc, x)| *x <= self.most_on(arc));
-        let is_flow = fits
-            && (2..self.nodes).all(|node| self.enters(flow, node) == self.leaves(flow, node));
+        let is_flow = fits && (2..self.nodes).all(|node| self.balance(flow, node) == 0);
         is_flow.then(|| self.leaves(flow, 0))
     }
 

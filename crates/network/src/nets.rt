@@ -58,9 +58,9 @@ impl Network {
         if let Some(arc) = first_bad(nodes, arcs) {
             return Err(NetworkFault::BadArc { arc });
         }
-        let mut table = ArrayVec::new();
-        table.try_extend_from_slice(arcs).unwrap();
-        *self = Network { nodes, arcs: table };
+        self.nodes = nodes;
+        self.arcs.clear();
+        self.arcs.try_extend_from_slice(arcs).unwrap();
         Ok(())
     }
 }

@@ -1,5 +1,5 @@
 -- What the rules of a network say of its residual arcs.
-use Rattle.std.proofs.Common.{◌≡◌, ℕ, ◌-◌, ◌<◌, ◌≤◌, true, ◌≢◌, ◌⊎◌, length, refl, inl, inr, arith}
+use Rattle.std.proofs.Common.{◌≡◌, ℕ, ◌-◌, ◌<◌, ◌≤◌, ◌==◌, ◌||◌, true, false, ◌≢◌, ◌⊎◌, length, refl, inl, inr, arith}
 use Rattle.std.proofs.lemmas.Bool.{cases_eq}
 use Rattle.std.proofs.lemmas.Bool.Decides.{nat_tests}
 use Rattle.flows.specs.declared.Arc.{Arc}
@@ -25,6 +25,10 @@ module _ (net : Network) (k : ℕ) (h : k < length (arcs_of net)) where
 
   pub small_at : (L : ℕ) → L ≤ 2000000 → capacity_under L (arc_at (arcs_of net) k) ≤ 2000000
   small_at L = small_under L (arc_at (arcs_of net) k) (sound_at net (arcs_of net) refl k h).small
+
+-- by an arc of other nodes nothing can leave a node
+pub none_off : (L : ℕ) (a : Arc) (f u : ℕ) → (a.tail == u || a.head == u) ≡ false → residual_of L a f u ≡ 0
+none_off L a f u off = grind (arith, nat_tests)
 
 -- from the far end back
 pub back_again : (L : ℕ) (a : Arc) (f u : ℕ) → 0 < residual_of L a f u → far_end a (far_end a u) ≡ u

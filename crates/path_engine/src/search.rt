@@ -2,7 +2,7 @@
 ghost use Rattle.std.specs.Prelude.{◌≡◌, ◌<◌, ◌≤◌, ◌↔◌, true, [], ◌∷◌, ◌++◌, length, IsTrue};
 ghost use Rattle.path_engine.specs.Searches.{arcs_in, has, depth_at, room_at, effort, Turn, Searched, begun, discovered};
 
-use crate::steps::{LimitedNet, Step};
+use crate::steps::{LimitedNet, Step, ends_at};
 use line::{NodeLine, Visit};
 use network::Side;
 
@@ -59,6 +59,7 @@ impl Search {
     }
 
     // Enters the new node that a step by an arc leads to, and lets it wait.
+    #[inline(never)]
     fn discover(&mut self, line: &mut NodeLine<'_, Visit>, from: u8, step: Step, arc: u8)
         requires nodes { (from < 64) × (step.to < 64) }
         requires low { depth_at self.old from < 64 }
@@ -77,7 +78,9 @@ impl Search {
     }
 
     // Follows each arc of a node: what it leads to joins the line, if it is new and more can go
-    // there.
+    // there. Nearly all of a run's time is spent in this loop, which is kept short: it stands apart,
+    // and calls what is rare.
+    #[inline(never)]
     fn expand(
         &mut self,
         line: &mut NodeLine<'_, Visit>,
@@ -92,9 +95,11 @@ impl Search {
     {
         let arcs = net.arcs();
         for (k, arc) in arcs.iter().enumerate() {
-            let step = net.step_from(*arc, flow[k], node);
-            if step.residual > 0 && !self.reached.holds(step.to) {
-                self.discover(line, node, step, k as u8);
+            if ends_at(arc, node) {
+                let step = net.step_from(*arc, flow[k], node);
+                if step.residual > 0 && !self.reached.holds(step.to) {
+                    self.discover(line, node, step, k as u8);
+                }
             }
         }
     }

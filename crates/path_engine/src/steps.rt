@@ -1,5 +1,5 @@
 // The steps of the residual network: an arc, as one of its ends sees it.
-ghost use Rattle.std.specs.Prelude.{◌≡◌};
+ghost use Rattle.std.specs.Prelude.{◌≡◌, ◌==◌, ◌||◌};
 ghost use Rattle.path_engine.specs.Residual.{far_end, residual_of};
 ghost use Rattle.path_engine.specs.Searches.{arcs_in, nodes_in};
 
@@ -11,6 +11,13 @@ pub fn far_end(arc: Arc, node: u8) -> u8
     ensures { result ≡ far_end arc node }
 {
     if arc.tail == node { arc.head } else { arc.tail }
+}
+
+/// Whether a node is one of an arc's ends: by no other arc can anything leave it.
+pub(crate) fn ends_at(arc: &Arc, node: u8) -> bool
+    ensures { result ≡ (arc.now.tail == node || arc.now.head == node) }
+{
+    arc.tail == node || arc.head == node
 }
 
 /// How much more can leave a node by an arc that carries so much.

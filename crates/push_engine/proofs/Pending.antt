@@ -35,7 +35,7 @@ empty p v h = grind (arith, nat_tests)
 far_apart : (n : ℕ) (a : Arc) (v : ℕ) → Ends n a → far_end a v ≢ v
 far_apart n a v e q = let ne = e.apart in grind (arith, nat_tests)
 
-raised_other : (p : Preflow) (v h u : ℕ) → u ≢ v → pending (raised p v h) u ≡ pending p u
+pub raised_other : (p : Preflow) (v h u : ℕ) → u ≢ v → pending (raised p v h) u ≡ pending p u
 raised_other p v h u ne = rw (excess_raised p v h, heights_raised p v h, get_or-set_other) refl
 
 pub raised_but : (p : Preflow) (v h : ℕ) (w : List ℕ) → QueuedBut p v w → QueuedBut (raised p v h) v w

@@ -26,8 +26,13 @@ fn put_digits(number: usize, line: &mut Line)
     ensures text { line.new.items ≡ line.old.items ++ decimal number }
     ensures few { array_vec_len line.new ≤ array_vec_len line.old + 20 }
 {
-    let mut digits = Buffer::new();
-    put_word(digits.format(number).as_bytes(), line);
+    if number < 10 {
+        // nearly every number of a row
+        line.push(b'0' + number as u8);
+    } else {
+        let mut digits = Buffer::new();
+        put_word(digits.format(number).as_bytes(), line);
+    }
 }
 
 /// The line of a word and these numbers, a space apart.

@@ -24,12 +24,15 @@ impl Board {
             return Err(BoardFault::BadSize);
         }
         let first = Order::try_from(types[0]).map_err(|_| BoardFault::NotEntered { kind: 1 })?;
-        let mut orders = ArrayVec::new_in(first);
+        // a whole table, of which the orders are kept: it costs less than a push into blanks
+        let mut table = [first; 24];
         for (t, record) in types.iter().enumerate() {
             let kind = t as u8 + 1;
             let order = Order::try_from(*record).map_err(|_| BoardFault::NotEntered { kind })?;
-            orders.push(order);
+            table[t] = order;
         }
+        let mut orders = ArrayVec::from_array_in(first, table);
+        orders.truncate(types.len());
         let nozzles = ArrayVec::try_from(nozzles).unwrap();
         Ok(Board { orders, nozzles })
     }

@@ -5,6 +5,6 @@ use Rattle.sheets.proofs.boards.Board.of.Given as goal
 
 abbrev pub invariant-loop-t : goal.invariant-loop-t
 invariant-loop-t l =
-    (take l.t l.types ≡ map entered l.orders.items)
-    × (length l.orders.items ≡ l.t)
+    (take l.t l.types ≡ map entered (take l.t l.table))
+    × (length l.table ≡ 24)
     × ((k : ℕ) → k < l.t → is_entered (type_at l.types k) ≡ true)
